@@ -54,6 +54,13 @@ def limit_lines(limit: Optional[Object]) -> List[str]:
     return [f"  a register takes targets={count}" if name == "targets" else f"  there are {name}={count}"]
 
 
+def taken_lines(taken: Optional[Object]) -> List[str]:
+    """The register that holds the block of a needless stall, and its targets."""
+    if taken is None:
+        return []
+    return [f"  register={taken['register']} holds the block and has targets={taken['targets']}"]
+
+
 def carried(fault: Object) -> List[str]:
     """What the record has to carry and carries."""
     due, found, first = fault["expected"], fault["found"], fault["first_different"]
@@ -115,6 +122,7 @@ def rule_lines(fault: Object) -> List[str]:
         f"  {fault['rule']} asks that {fault['asks']}",
         *limit_lines(fault["limit"]),
         *([] if fault["free_register"] is None else [f"  free register={fault['free_register']}"]),
+        *taken_lines(fault["taken"]),
         *carried(fault),
         *(line for block in fault["blocks"] for line in block_lines(block)),
         *origins_lines(fault["origins"]),

@@ -8,6 +8,8 @@ use std::alloc::{AllocError, Global};
 pub enum Takes {
     /// A word in its place, which must be there.
     Word,
+    /// Words in their place, of which one must be there.
+    Words,
     /// Nothing: it is a flag.
     Nothing,
     /// A text after its name.
@@ -45,6 +47,14 @@ pub const TRACE: Argument = Argument {
     value: "",
     default: "",
     help: "The recorded trace, or -",
+};
+
+pub const TRACES: Argument = Argument {
+    name: "TRACE",
+    takes: Takes::Words,
+    value: "",
+    default: "",
+    help: "The recorded trace, or -; there may be several",
 };
 
 pub const OUT: Argument = Argument {
@@ -93,6 +103,7 @@ fn arg_of<'a>(alloc: Global, argument: &'a Argument) -> Arg<'a> {
     let arg = Arg::new(alloc, argument.name).help(argument.help);
     match argument.takes {
         Takes::Word => arg.required(true),
+        Takes::Words => arg.required(true).num_args(1..),
         Takes::Nothing => arg.long(argument.name).action(ArgAction::SetTrue),
         Takes::Text => valued(arg, argument),
         Takes::U8 => valued(arg.value_parser(value_parser!(u8)), argument),

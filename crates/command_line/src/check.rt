@@ -1,9 +1,10 @@
-//! `score check CONFIG TRACE`.
+//! `score check CONFIG TRACE..`.
 
-use crate::Request;
-use crate::argument::{Argument, COMPLETE, CONFIG, PROGRESS, TRACE, Takes};
-use crate::files::{LEFT_OUT, files_of};
+use crate::argument::{Argument, COMPLETE, CONFIG, PROGRESS, TRACES, Takes};
+use crate::files::{LEFT_OUT, twice_standard};
+use crate::{CommandFault, Request, refused};
 use clap::ArgMatches;
+use std::alloc::Global;
 
 /// What the help says of `check`.
 pub const ABOUT: &str = "Judges a trace for the hierarchy of a configuration, and prints one line";
@@ -40,10 +41,12 @@ With --complete, each request of a legal trace must also have a reply. The
 line names the lowest port and its lowest tag without one. One thread judges
 the trace then.
 
+If there are several traces, each is judged, and each answer has the path of
+its trace and a colon before it. Nothing is told of progress then. The exit
+status is the greatest of all. One of them may be -.
+
 With --list, TRACE is the path of a text with the path of a trace in each
-line. Each of these traces is judged, and each answer has the trace's path
-and a colon before it. Nothing is told of progress then. The exit status is
-the greatest of all.
+line. These traces are judged in the same way, also if there is only one.
 
 With --progress, standard error gets a line for each twentieth of a file,
 or for each 64 MiB of a TRACE whose size is not known. If it is a terminal,
@@ -61,6 +64,7 @@ Examples:
   score check small.toml run.lfts
   score check --complete small.toml run.lfts
   score check --workers 4 --progress small.toml run.lfts
+  score check small.toml *.lfts
   printf '%s\\n' *.lfts | score check --list small.toml -
   zstd -dc run.lfts.zst | score check small.toml -";
 
@@ -79,7 +83,7 @@ pub struct CheckOptions {
 
 pub const ARGUMENTS: &[Argument] = &[
     CONFIG,
-    TRACE,
+    TRACES,
     Argument {
         name: "workers",
         takes: Takes::U16,
@@ -98,16 +102,42 @@ pub const ARGUMENTS: &[Argument] = &[
     PROGRESS,
 ];
 
-pub fn request<'a>(matches: &ArgMatches<'a>) -> Result<Request<'a>, &'static str> {
-    let (config, trace) = files_of(matches)?;
-    Ok(Request::Check {
-        config,
-        trace,
-        options: CheckOptions {
-            workers: matches.get_one::<u16>("workers").ok_or(LEFT_OUT)?,
-            complete: matches.get_flag("complete"),
-            list: matches.get_flag("list"),
-            progress: matches.get_flag("progress"),
-        },
+const ONE_LIST: &str = "with --list there is one TRACE, which is the list";
+
+fn options_of(matches: &ArgMatches<'_>) -> Option<CheckOptions> {
+    Some(CheckOptions {
+        workers: matches.get_one::<u16>("workers")?,
+        complete: matches.get_flag("complete"),
+        list: matches.get_flag("list"),
+        progress: matches.get_flag("progress"),
     })
+}
+
+/// Why these words are no request.
+fn fault_in(config: &str, traces: &[&str], list: bool) -> Option<&'static str> {
+    if list && traces.len() > 1 {
+        return Some(ONE_LIST);
+    }
+    twice_standard(config, traces)
+}
+
+pub fn request<'a>(alloc: Global, matches: &ArgMatches<'a>) -> Result<Request<'a>, CommandFault> {
+    let (Some(config), Some(traces), Some(options)) = (
+        matches.get_str("CONFIG"),
+        matches.get_strs("TRACE"),
+        options_of(matches),
+    ) else {
+        return Err(refused(LEFT_OUT));
+    };
+    if let Some(why) = fault_in(config, traces, options.list) {
+        return Err(refused(why));
+    }
+    match traces.to_vec(alloc) {
+        Ok(traces) => Ok(Request::Check {
+            config,
+            traces,
+            options,
+        }),
+        Err(_) => Err(CommandFault::Memory),
+    }
 }

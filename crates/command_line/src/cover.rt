@@ -40,6 +40,15 @@ each level:
                                 back
   fill1_out_of_order            blocks before one asked for earlier
   fill1_over_stores             blocks for which a store waits
+  evict1_under_supply evict2_under_supply evict1_of_other_set
+  evict2_of_same_set            evictions while level two has supplied a
+                                block that level one has not got, of
+                                another set or of the same
+  evict2_beside_pinned evict2_last_unpinned
+  second_beside_pinned second_all_pinned
+                                evictions from level two, and misses there,
+                                while lines of the set are pinned: those of
+                                blocks that registers of level one hold
 
 and a port these:
 

@@ -60,9 +60,13 @@ fn fault_of(error: Error) -> CommandFault {
 }
 
 /// What the command of this name asks for.
-fn request_of<'a>(name: &str, matches: &ArgMatches<'a>) -> Result<Request<'a>, &'static str> {
-    match name {
-        "check" => check::request(matches),
+fn request_of<'a>(
+    alloc: Global,
+    name: &str,
+    matches: &ArgMatches<'a>,
+) -> Result<Request<'a>, CommandFault> {
+    let found = match name {
+        "check" => return check::request(alloc, matches),
         "stats" => stats::request(matches),
         "explain" => explain::request(matches),
         "cover" => cover::request(matches),
@@ -73,7 +77,8 @@ fn request_of<'a>(name: &str, matches: &ArgMatches<'a>) -> Result<Request<'a>, &
         "shrink" => shrink::request(matches),
         "view" => view::request(matches),
         _ => Err(NO_COMMAND),
-    }
+    };
+    found.map_err(refused)
 }
 
 /// What the words ask for, the program's own name first.
@@ -85,9 +90,8 @@ pub fn asked<'a>(alloc: Global, words: &'a [String]) -> Result<Request<'a>, Comm
         Ok(matches) => matches,
         Err(error) => return Err(fault_of(error)),
     };
-    let found = match matches.subcommand() {
-        Some((name, inner)) => request_of(name, inner),
-        None => Err(NO_COMMAND),
-    };
-    found.map_err(refused)
+    match matches.subcommand() {
+        Some((name, inner)) => request_of(alloc, name, inner),
+        None => Err(refused(NO_COMMAND)),
+    }
 }

@@ -6,12 +6,12 @@ use crate::explain::ExplainOptions;
 use crate::view::ViewOptions;
 
 /// A command, with the words that it was given.
-#[derive(Clone, Copy)]
+#[derive(Drop)]
 pub enum Request<'a> {
-    /// Judge the trace in a file for the configuration in a file.
+    /// Judge the traces in files for the configuration in a file. There is one at least.
     Check {
         config: &'a str,
-        trace: &'a str,
+        traces: Vec<&'a str>,
         options: CheckOptions,
     },
     /// Count over the trace in a file, judged for the configuration in a file.
@@ -87,11 +87,15 @@ impl<'a> Request<'a> {
         }
     }
 
-    /// The files that it reads, in the order in which they are read.
+    /// The files that it reads, in the order in which they are read, and of several traces the first.
     pub fn inputs(&self) -> [Option<&'a str>; 3] {
         match *self {
-            Request::Check { config, trace, .. }
-            | Request::Stats { config, trace, .. }
+            Request::Check {
+                config,
+                ref traces,
+                ..
+            } => [Some(config), None, traces.first().copied()],
+            Request::Stats { config, trace, .. }
             | Request::Cover { config, trace, .. }
             | Request::Watch { config, trace }
             | Request::Shrink { config, trace, .. } => [Some(config), None, Some(trace)],

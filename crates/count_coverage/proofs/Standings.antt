@@ -8,10 +8,10 @@ use Rattle.lf_rules.specs.declared.shape.Shape.{Shape}
 use Rattle.lf_rules.specs.declared.event.Record.{Record}
 use Rattle.lf_rules.specs.declared.event.Event.{Event}
 use Rattle.lf_rules.specs.declared.event.Event.TheVariants.{Primary, Merge, Fill1, SecondPrimary, SecondMerge, Fill2}
-use Rattle.lf_rules.specs.Address.{second_of}
 use Rattle.count_coverage.specs.declared.request.Request.{Request}
-use Rattle.count_coverage.specs.Standing.{Standing, with_request, waiting_after, waiting2_after, standing_after}
-use Rattle.count_coverage.specs.Standing.{after_if, standing}
+use Rattle.count_coverage.specs.declared.supply.Asked.{Asked}
+use Rattle.count_coverage.specs.Standing.{Standing, with_request, waiting_after, asked_of, waiting2_after}
+use Rattle.count_coverage.specs.Standing.{standing_after, after_if, standing}
 use Rattle.count_coverage.specs.Sights.{sight, sight_by, sight_if}
 
 -- ---- no more requests wait than there are records
@@ -42,14 +42,14 @@ waiting_le shape rs (suc n) =
 
 -- ---- nor do more misses wait for level two
 
-waiting2_after_le : (shape : Shape) (event : Event) (waiting : List ℕ) →
+waiting2_after_le : (shape : Shape) (event : Event) (waiting : List Asked) →
     length (waiting2_after shape event waiting) ≤ suc (length waiting)
 waiting2_after_le shape (SecondPrimary block register) waiting =
-    omega (arith, length-append waiting (second_of shape block ∷ []))
+    omega (arith, length-append waiting (asked_of shape block ∷ []))
 waiting2_after_le shape (SecondMerge block register) waiting =
-    omega (arith, length-append waiting (second_of shape block ∷ []))
+    omega (arith, length-append waiting (asked_of shape block ∷ []))
 waiting2_after_le shape (Fill2 second bytes) waiting =
-    let others = λ (other : ℕ). not (other == second) in
+    let others = λ (asked : Asked). not (asked.second == second) in
     omega (arith, length-filter others waiting, count_by-le-length others waiting)
 waiting2_after_le shape _ waiting = omega arith
 

@@ -29,13 +29,13 @@ numbers_of counts measures.SecondField = counts.second_fields
 
 -- each point has this count
 pub record AreCounts (counts : Counts) (count : BankPoint → ℕ) : Type 0 where
-  pub of_kinds : (n : ℕ) → n < 29 → slice_index counts.kinds n ≡ count (kind_at n)
+  pub of_kinds : (n : ℕ) → n < 37 → slice_index counts.kinds n ≡ count (kind_at n)
   pub of_numbers : (measure : Measure) (n : ℕ) → n < 65
       → slice_index (numbers_of counts measure) n ≡ count (points.Numbered measure n)
 
 -- no count is great
 pub record AreFew (counts : Counts) : Type 0 where
-  pub of_kinds : (n : ℕ) → n < 29 → slice_index counts.kinds n < 2 ^ 29
+  pub of_kinds : (n : ℕ) → n < 37 → slice_index counts.kinds n < 2 ^ 29
   pub of_numbers : (measure : Measure) (n : ℕ) → n < 65 → slice_index (numbers_of counts measure) n < 2 ^ 29
 
 -- the point of the bank with this count

@@ -54,13 +54,21 @@ bank_point_line points.SecondStallNoEntry = 32
 bank_point_line points.SecondRefetch = 33
 bank_point_line points.Fill2 = 34
 bank_point_line points.Evict2 = 35
+bank_point_line points.EvictionUnderSupply = 37
+bank_point_line points.EvictionOfOtherSet = 38
+bank_point_line points.SecondEvictionUnderSupply = 39
+bank_point_line points.SecondEvictionOfSameSet = 40
+bank_point_line points.EvictionBesidePinned = 41
+bank_point_line points.EvictionOfLastUnpinned = 42
+bank_point_line points.SecondPrimaryBesidePinned = 43
+bank_point_line points.SecondPrimaryAllPinned = 44
 bank_point_line (points.Numbered measure n) = measure_line measure
 
 abbrev pub port_point_line : PortPoint → ℕ
-port_point_line (Load size) = 37
-port_point_line (Store size) = 38
-port_point_line Reply = 39
-port_point_line Fence = 40
+port_point_line (Load size) = 45
+port_point_line (Store size) = 46
+port_point_line Reply = 47
+port_point_line Fence = 48
 
 -- A part of a key: its name behind the byte 1, and its value behind the byte 2.
 abbrev pub part : List ℕ → List ℕ → List ℕ

@@ -22,3 +22,5 @@ pub record IsKept (kept : Kept) (s : Standing) : Type 0 where
   pub written : (block : ℕ) → is_in kept.written block ≡ s.written block
   pub waiting2 : kept.waiting2.items ≡ s.waiting2
   pub written2 : (second : ℕ) → is_in kept.written2 second ≡ s.written2 second
+  pub lines2 : (second : ℕ) → is_in kept.lines2 second ≡ s.lines2 second
+  pub supplied : kept.supplied.items ≡ s.supplied

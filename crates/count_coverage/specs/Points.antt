@@ -19,9 +19,12 @@ use Rattle.count_coverage.specs.Sights.{store_behind_load, store_behind_store}
 use Rattle.count_coverage.specs.Sights.{lacks_register, lacks_place, lacks_register2, lacks_place2, is_refetch}
 use Rattle.count_coverage.specs.Sights.{is_refetch2}
 use Rattle.count_coverage.specs.Sights.{overtakes, is_over_stores, targets_made, field_taken, targets_made2}
+use Rattle.count_coverage.specs.Sights.{is_under_supply, is_of_other_set, is_under_supply2, is_of_same_set2}
+use Rattle.count_coverage.specs.Sights.{is_beside_pinned, is_last_unpinned, is_at_pinned, is_at_all_pinned}
 use Rattle.count_coverage.specs.Kinds.{is_fill1, is_evict1, is_second_hit, is_second_primary, is_second_merge}
 use Rattle.count_coverage.specs.Kinds.{is_second_stall, is_fill2, is_evict2}
-use Rattle.count_coverage.specs.Kinds.{is_clean, is_dirty_whole, is_dirty_in_part, is_load, is_store, is_reply, is_fence}
+use Rattle.count_coverage.specs.Kinds.{is_clean, is_dirty_whole, is_dirty_in_part, is_load, is_store, is_reply}
+use Rattle.count_coverage.specs.Kinds.{is_fence}
 use Rattle.count_coverage.specs.Kinds.{dirty_blocks_of, merge_port, field_taken2}
 
 -- ---- a bank
@@ -82,6 +85,14 @@ reaches shape points.StoreBehindStore before after seen event = store_behind_sto
 reaches shape points.Refetch before after seen event = is_refetch seen
 reaches shape points.FillOutOfOrder before after seen event = overtakes seen
 reaches shape points.FillOverStores before after seen event = is_over_stores seen
+reaches shape points.EvictionUnderSupply before after seen event = is_under_supply seen
+reaches shape points.EvictionOfOtherSet before after seen event = is_of_other_set seen
+reaches shape points.SecondEvictionUnderSupply before after seen event = is_under_supply2 seen
+reaches shape points.SecondEvictionOfSameSet before after seen event = is_of_same_set2 seen
+reaches shape points.EvictionBesidePinned before after seen event = is_beside_pinned seen
+reaches shape points.EvictionOfLastUnpinned before after seen event = is_last_unpinned shape.level2.ways seen
+reaches shape points.SecondPrimaryBesidePinned before after seen event = is_at_pinned seen
+reaches shape points.SecondPrimaryAllPinned before after seen event = is_at_all_pinned shape.level2.ways seen
 reaches shape (points.Numbered measure n) before after seen event =
     is_number n (number_of shape measure before after seen event)
 

@@ -1,5 +1,5 @@
 -- The points that a hierarchy can reach. A hierarchy cannot reach the others, by what its registers hold.
-use Rattle.std.specs.Prelude.{ℕ, ◌/◌, min, Bool, true, false, ◌&&◌, ◌||◌, nat_lt, nat_le}
+use Rattle.std.specs.Prelude.{ℕ, ◌+◌, ◌*◌, ◌/◌, min, Bool, true, false, ◌&&◌, ◌||◌, nat_lt, nat_le}
 use Rattle.std.specs.Prelude.{List, [], ◌∷◌, ◌++◌, map, filter}
 use Rattle.std.specs.List.{range_with_len, flat_map}
 use Rattle.lf_rules.specs.declared.shape.Shape.{Shape}
@@ -94,6 +94,16 @@ can_stall2 shape =
     exceeds_registers shape.level2.organisation (most_held shape)
     || exceeds_entries shape.level2.organisation (most_asked shape)
 
+-- ---- lines
+
+-- as many lines as the ways of all sets
+abbrev pub most_lines2 : Shape → ℕ
+most_lines2 shape = shape.level2.sets * shape.level2.ways
+
+-- A block that leaves level one and one that is supplied are both in level two.
+abbrev pub can_evict_under_supply : Shape → Bool
+can_evict_under_supply shape = nat_lt 1 (most_lines2 shape) || nat_lt 1 shape.factor
+
 -- ---- the points
 
 -- can an event have the number?
@@ -124,6 +134,15 @@ can_reach shape points.LoadBehindStore = can_merge shape
 can_reach shape points.StoreBehindLoad = can_merge shape
 can_reach shape points.StoreBehindStore = can_merge shape
 can_reach shape points.FillOutOfOrder = nat_lt 1 (most_held shape)
+can_reach shape points.EvictionUnderSupply = can_evict_under_supply shape
+can_reach shape points.EvictionOfOtherSet = nat_lt 1 shape.level1.sets && can_evict_under_supply shape
+can_reach shape points.SecondEvictionUnderSupply = nat_lt 1 (most_lines2 shape)
+can_reach shape points.SecondEvictionOfSameSet = nat_lt 1 shape.level2.ways
+can_reach shape points.EvictionBesidePinned = nat_lt 1 shape.level2.ways
+can_reach shape points.EvictionOfLastUnpinned =
+    nat_lt 1 shape.level2.ways && nat_le shape.level2.ways (most_held shape + 1)
+can_reach shape points.SecondPrimaryBesidePinned = nat_lt 1 (most_held shape)
+can_reach shape points.SecondPrimaryAllPinned = nat_lt shape.level2.ways (most_held shape)
 can_reach shape (points.Numbered measure n) = can_have shape measure n
 can_reach shape _ = true
 
@@ -159,6 +178,14 @@ kinds =
     ∷ points.Refetch
     ∷ points.FillOutOfOrder
     ∷ points.FillOverStores
+    ∷ points.EvictionUnderSupply
+    ∷ points.EvictionOfOtherSet
+    ∷ points.SecondEvictionUnderSupply
+    ∷ points.SecondEvictionOfSameSet
+    ∷ points.EvictionBesidePinned
+    ∷ points.EvictionOfLastUnpinned
+    ∷ points.SecondPrimaryBesidePinned
+    ∷ points.SecondPrimaryAllPinned
     ∷ []
 
 abbrev pub all_measures : List Measure

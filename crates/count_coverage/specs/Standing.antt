@@ -1,6 +1,6 @@
 -- What a bank's records, in the order of their numbers, leave for the records behind them.
-use Rattle.std.specs.Prelude.{ℕ, zero, suc, ◌/◌, Bool, true, false, not, ◌&&◌, ◌||◌, ◌==◌, if◌then◌else◌}
-use Rattle.std.specs.Prelude.{List, [], ◌∷◌, ◌++◌, filter, fold, length, slice_get, Option, Some, None}
+use Rattle.std.specs.Prelude.{ℕ, zero, suc, ◌+◌, ◌/◌, Bool, true, false, not, ◌&&◌, ◌||◌, ◌==◌, if◌then◌else◌}
+use Rattle.std.specs.Prelude.{List, [], ◌∷◌, ◌++◌, filter, fold, length, take, slice_get, Option, Some, None}
 use Rattle.std.specs.List.{list_any}
 use Rattle.lf_rules.specs.declared.shape.Shape.{Shape}
 use Rattle.lf_rules.specs.declared.event.Op.{Op}
@@ -8,9 +8,10 @@ use Rattle.lf_rules.specs.declared.event.Op.TheVariants.{Load, Store}
 use Rattle.lf_rules.specs.declared.event.Record.{Record}
 use Rattle.lf_rules.specs.declared.event.Event.{Event}
 use Rattle.lf_rules.specs.declared.event.Event.TheVariants.{Issue, Primary, Merge, Fill1, Evict1}
-use Rattle.lf_rules.specs.declared.event.Event.TheVariants.{SecondPrimary, SecondMerge, Fill2, Evict2}
-use Rattle.lf_rules.specs.Address.{block_of, offset_of, second_of}
+use Rattle.lf_rules.specs.declared.event.Event.TheVariants.{SecondHit, SecondPrimary, SecondMerge, Fill2, Evict2}
+use Rattle.lf_rules.specs.Address.{block_of, offset_of, second_of, set1_of, set2_of}
 use Rattle.count_coverage.specs.declared.request.Request.{Request}
+use Rattle.count_coverage.specs.declared.supply.Asked.{Asked}
 use Rattle.count_coverage.specs.Kinds.{dirty_blocks}
 
 pub record Standing : Type 0 where
@@ -20,15 +21,27 @@ pub record Standing : Type 0 where
   pub waiting : List Request
   -- has level one given up the block with a dirty byte?
   pub written : ℕ → Bool
-  -- the second-level blocks of the misses that wait for level two, in the order of these misses
-  pub waiting2 : List ℕ
+  -- the blocks of the misses that wait for level two, in the order of these misses
+  pub waiting2 : List Asked
   -- has level two given up the second-level block with a dirty byte?
   pub written2 : ℕ → Bool
+  -- does level two have the second-level block?
+  pub lines2 : ℕ → Bool
+  -- the blocks that level two has supplied, and that level one has not got yet
+  pub supplied : List Asked
 
 -- ---- the latest request of a port and a tag
 
 abbrev pub request_of : Shape → Op → ℕ → Request
-request_of shape op address = record { op = op; block = block_of shape address; field = offset_of shape address / 8 }
+request_of shape op address =
+    let block = block_of shape address in
+    record {
+      op = op;
+      block = block;
+      field = offset_of shape address / 8;
+      second = second_of shape block;
+      set2 = set2_of shape.banks shape.level2.sets (second_of shape block);
+    }
 
 abbrev pub issued_with : Shape → Event → ℕ → Option Request → Option Request
 issued_with shape (Issue op t size address bytes) tag before =
@@ -79,20 +92,79 @@ has_store block waiting = list_any (λ request. request.block == block && is_sto
 
 -- ---- the misses of level two that wait
 
+abbrev pub asked_of : Shape → ℕ → Asked
+asked_of shape block = record {
+  block = block;
+  second = second_of shape block;
+  set1 = set1_of shape.banks shape.factor shape.level1.sets block;
+  set2 = set2_of shape.banks shape.level2.sets (second_of shape block);
+}
+
 -- a miss waits until level two gets its second-level block
-abbrev pub waiting2_after : Shape → Event → List ℕ → List ℕ
-waiting2_after shape (SecondPrimary block register) waiting = waiting ++ second_of shape block ∷ []
-waiting2_after shape (SecondMerge block register) waiting = waiting ++ second_of shape block ∷ []
-waiting2_after shape (Fill2 second bytes) waiting = filter (λ other. not (other == second)) waiting
+abbrev pub waiting2_after : Shape → Event → List Asked → List Asked
+waiting2_after shape (SecondPrimary block register) waiting = waiting ++ asked_of shape block ∷ []
+waiting2_after shape (SecondMerge block register) waiting = waiting ++ asked_of shape block ∷ []
+waiting2_after shape (Fill2 second bytes) waiting = filter (λ asked. not (asked.second == second)) waiting
 waiting2_after shape _ waiting = waiting
 
 -- does one of these ask for the second-level block?
-abbrev pub waits_for2 : ℕ → List ℕ → Bool
-waits_for2 second waiting = list_any (λ other. other == second) waiting
+abbrev pub waits_for2 : ℕ → List Asked → Bool
+waits_for2 second waiting = list_any (λ asked. asked.second == second) waiting
 
 -- how many of these ask for the second-level block
-abbrev pub targets2 : ℕ → List ℕ → ℕ
-targets2 second waiting = length (filter (λ other. other == second) waiting)
+abbrev pub targets2 : ℕ → List Asked → ℕ
+targets2 second waiting = length (filter (λ asked. asked.second == second) waiting)
+
+-- ---- the blocks that are supplied
+
+-- A block is supplied from its hit at level two, or from the fill of its second-level block in level two that it waits
+-- for, until its fill in level one.
+abbrev pub supplied_after : Shape → List Asked → Event → List Asked → List Asked
+supplied_after shape waiting (SecondHit block) supplied = supplied ++ asked_of shape block ∷ []
+supplied_after shape waiting (Fill2 second bytes) supplied =
+    supplied ++ filter (λ asked. asked.second == second) waiting
+supplied_after shape waiting (Fill1 block bytes) supplied = filter (λ asked. not (asked.block == block)) supplied
+supplied_after shape waiting _ supplied = supplied
+
+-- is there one?
+abbrev pub is_some : List Asked → Bool
+is_some [] = false
+is_some (asked ∷ supplied) = true
+
+-- is one of these for the set of level one, or of level two?
+abbrev pub is_for_set1 : ℕ → List Asked → Bool
+is_for_set1 set supplied = list_any (λ asked. asked.set1 == set) supplied
+
+abbrev pub is_for_set2 : ℕ → List Asked → Bool
+is_for_set2 set supplied = list_any (λ asked. asked.set2 == set) supplied
+
+-- ---- the lines of level two that are pinned
+
+-- does level two have the second-level block after the event, where it had it before or not?
+abbrev pub has_line2 : Event → ℕ → Bool → Bool
+has_line2 (Fill2 second bytes) s before = second == s || before
+has_line2 (Evict2 second masks bytes) s before = not (second == s) && before
+has_line2 _ s before = before
+
+-- is one of these for the second-level block?
+abbrev pub is_for : ℕ → List Request → Bool
+is_for second requests = list_any (λ request. request.second == second) requests
+
+-- A line of level two is pinned while a register of level one holds one of its blocks: a request waits for that block.
+-- Does this request pin a line of the set that none of those before it pins?
+abbrev pub pins_another : ℕ → (ℕ → Bool) → List Request → Request → Bool
+pins_another set has before request =
+    request.set2 == set && has request.second && not (is_for request.second before)
+
+abbrev pub pins_if : ℕ → (ℕ → Bool) → List Request → Option Request → Bool
+pins_if set has before None = false
+pins_if set has before (Some request) = pins_another set has before request
+
+-- how many lines of the set the first n of these requests pin
+abbrev pub pinned : ℕ → (ℕ → Bool) → List Request → ℕ → ℕ
+pinned set has waiting zero = 0
+pinned set has waiting (suc n) =
+    pinned set has waiting n + (if pins_if set has (take n waiting) (slice_get waiting n) then 1 else 0)
 
 -- ---- blocks that were written back
 
@@ -113,6 +185,8 @@ at_first = record {
   written = λ block. false;
   waiting2 = [];
   written2 = λ second. false;
+  lines2 = λ second. false;
+  supplied = [];
 }
 
 -- after one more record
@@ -123,6 +197,8 @@ standing_after shape r s = record {
   written = λ block. writes_back r.event block || s.written block;
   waiting2 = waiting2_after shape r.event s.waiting2;
   written2 = λ second. writes_back2 r.event second || s.written2 second;
+  lines2 = λ second. has_line2 r.event second (s.lines2 second);
+  supplied = supplied_after shape s.waiting2 r.event s.supplied;
 }
 
 abbrev pub after_if : Shape → Option Record → Standing → Standing

@@ -52,6 +52,14 @@ bank_point_text points.StoreBehindStore = codes "store_behind_store"
 bank_point_text points.Refetch = codes "refetched"
 bank_point_text points.FillOutOfOrder = codes "fill1_out_of_order"
 bank_point_text points.FillOverStores = codes "fill1_over_stores"
+bank_point_text points.EvictionUnderSupply = codes "evict1_under_supply"
+bank_point_text points.EvictionOfOtherSet = codes "evict1_of_other_set"
+bank_point_text points.SecondEvictionUnderSupply = codes "evict2_under_supply"
+bank_point_text points.SecondEvictionOfSameSet = codes "evict2_of_same_set"
+bank_point_text points.EvictionBesidePinned = codes "evict2_beside_pinned"
+bank_point_text points.EvictionOfLastUnpinned = codes "evict2_last_unpinned"
+bank_point_text points.SecondPrimaryBesidePinned = codes "second_beside_pinned"
+bank_point_text points.SecondPrimaryAllPinned = codes "second_all_pinned"
 bank_point_text (points.Numbered measure n) = measure_text measure ++ codes "_" ++ decimal n
 
 abbrev pub port_point_text : PortPoint → List ℕ

@@ -2,6 +2,7 @@
 
 ghost use Rattle.std.specs.Prelude.{◌≡◌, ℕ, ◌+◌, ◌<◌, ◌≤◌, ◌^◌, length, All, IsSome, IfOk, if◌then◌else◌};
 ghost use Rattle.std.specs.Prelude.{slice_index};
+ghost use Rattle.lf_rules.specs.InRange.{IsShape};
 ghost use Rattle.lf_logs.specs.Places.{record_at, records_at};
 ghost use Rattle.lf_stats.specs.Statistics.{held_counts};
 ghost use Rattle.count_coverage.specs.declared.point.BankPoint.{BankPoint};
@@ -17,7 +18,7 @@ use std::alloc::Global;
 use trace_views::RecordView;
 
 /// How many points have no number.
-const KIND_COUNT: usize = 29;
+const KIND_COUNT: usize = 37;
 
 /// The numbers of a measure that are told apart: those below.
 const NUMBERS: usize = 65;
@@ -53,6 +54,14 @@ pub(crate) const KINDS: [BankPoint; KIND_COUNT] = [
     BankPoint::Refetch,
     BankPoint::FillOutOfOrder,
     BankPoint::FillOverStores,
+    BankPoint::EvictionUnderSupply,
+    BankPoint::EvictionOfOtherSet,
+    BankPoint::SecondEvictionUnderSupply,
+    BankPoint::SecondEvictionOfSameSet,
+    BankPoint::EvictionBesidePinned,
+    BankPoint::EvictionOfLastUnpinned,
+    BankPoint::SecondPrimaryBesidePinned,
+    BankPoint::SecondPrimaryAllPinned,
 ];
 
 /// Adds one to the count of each point without a number that the event reaches, where so many registers of level one
@@ -67,8 +76,8 @@ fn add_kinds(
 )
     requires block { shape.now.block ≤ 64 }
     requires factor { 0 < shape.now.factor }
-    requires few { (n : ℕ) → n < 29 → slice_index counts.old n < 2 ^ 29 }
-    ensures { (n : ℕ) → n < 29 → slice_index counts.new n ≡ slice_index counts.old n
+    requires few { (n : ℕ) → n < 37 → slice_index counts.old n < 2 ^ 29 }
+    ensures { (n : ℕ) → n < 37 → slice_index counts.new n ≡ slice_index counts.old n
         + (if reaches shape.now (kind_at n) before after seen item.now.event then 1 else 0) }
 {
     for (i, kind) in KINDS.iter().enumerate() {
@@ -175,7 +184,7 @@ pub(crate) fn counted<L: LogRecords>(
     places: &[Place],
     held: &[u32],
 ) -> Result<Counts, NoMemory>
-    requires some_block { 0 < shape.now.block }
+    requires in_range { IsShape shape.now }
     requires block { shape.now.block ≤ 64 }
     requires factor { 0 < shape.now.factor }
     requires named { All (λ place. IsSome (record_at (L.lists logs.now) place)) places.now }

@@ -63,6 +63,14 @@ fn bank_point_line(point: BankPoint) -> u32
         BankPoint::SecondRefetch => 33,
         BankPoint::Fill2 => 34,
         BankPoint::Evict2 => 35,
+        BankPoint::EvictionUnderSupply => 37,
+        BankPoint::EvictionOfOtherSet => 38,
+        BankPoint::SecondEvictionUnderSupply => 39,
+        BankPoint::SecondEvictionOfSameSet => 40,
+        BankPoint::EvictionBesidePinned => 41,
+        BankPoint::EvictionOfLastUnpinned => 42,
+        BankPoint::SecondPrimaryBesidePinned => 43,
+        BankPoint::SecondPrimaryAllPinned => 44,
         BankPoint::Numbered(measure, _) => measure_line(measure),
     }
 }
@@ -72,10 +80,10 @@ fn port_point_line(point: PortPoint) -> u32
     ensures { result ≡ port_point_line point }
 {
     match point {
-        PortPoint::Load(_) => 37,
-        PortPoint::Store(_) => 38,
-        PortPoint::Reply => 39,
-        PortPoint::Fence => 40,
+        PortPoint::Load(_) => 45,
+        PortPoint::Store(_) => 46,
+        PortPoint::Reply => 47,
+        PortPoint::Fence => 48,
     }
 }
 

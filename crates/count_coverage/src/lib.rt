@@ -9,6 +9,7 @@ mod banks;
 mod counts;
 mod coverage;
 mod data;
+mod pinned;
 mod point;
 mod ports;
 mod reach;
@@ -16,6 +17,7 @@ mod reachable;
 mod request;
 mod sight;
 mod standing;
+mod supply;
 mod tally;
 mod text;
 

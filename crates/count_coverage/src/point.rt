@@ -85,6 +85,22 @@ pub enum BankPoint {
     FillOutOfOrder,
     /// Level one gets a block that a store waits for.
     FillOverStores,
+    /// Level one gives up a line while a block is supplied.
+    EvictionUnderSupply,
+    /// Level one gives up a line while a block is supplied, but none of the line's set.
+    EvictionOfOtherSet,
+    /// Level two gives up a line while a block is supplied.
+    SecondEvictionUnderSupply,
+    /// Level two gives up a line while a block of the line's set is supplied.
+    SecondEvictionOfSameSet,
+    /// Level two gives up a line while another line of the set is pinned.
+    EvictionBesidePinned,
+    /// Level two gives up a line while each other way of the set has a pinned line.
+    EvictionOfLastUnpinned,
+    /// A miss takes a register of level two while a line of the set is pinned.
+    SecondPrimaryBesidePinned,
+    /// A miss takes a register of level two while each way of the set has a pinned line.
+    SecondPrimaryAllPinned,
     /// An event has this number.
     Numbered(Measure, u32),
 }
@@ -159,6 +175,14 @@ impl fmt::Display for BankPoint {
             BankPoint::Refetch => write!(f, "refetched"),
             BankPoint::FillOutOfOrder => write!(f, "fill1_out_of_order"),
             BankPoint::FillOverStores => write!(f, "fill1_over_stores"),
+            BankPoint::EvictionUnderSupply => write!(f, "evict1_under_supply"),
+            BankPoint::EvictionOfOtherSet => write!(f, "evict1_of_other_set"),
+            BankPoint::SecondEvictionUnderSupply => write!(f, "evict2_under_supply"),
+            BankPoint::SecondEvictionOfSameSet => write!(f, "evict2_of_same_set"),
+            BankPoint::EvictionBesidePinned => write!(f, "evict2_beside_pinned"),
+            BankPoint::EvictionOfLastUnpinned => write!(f, "evict2_last_unpinned"),
+            BankPoint::SecondPrimaryBesidePinned => write!(f, "second_beside_pinned"),
+            BankPoint::SecondPrimaryAllPinned => write!(f, "second_all_pinned"),
             BankPoint::Numbered(measure, number) => write!(f, "{measure}_{number}"),
         }
     }

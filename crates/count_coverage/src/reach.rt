@@ -204,6 +204,14 @@ impl BankPoint {
             BankPoint::Refetch => seen.is_refetch(),
             BankPoint::FillOutOfOrder => seen.overtakes(),
             BankPoint::FillOverStores => seen.is_over_stores(),
+            BankPoint::EvictionUnderSupply => seen.is_under_supply(),
+            BankPoint::EvictionOfOtherSet => seen.is_of_other_set(),
+            BankPoint::SecondEvictionUnderSupply => seen.is_under_supply2(),
+            BankPoint::SecondEvictionOfSameSet => seen.is_of_same_set2(),
+            BankPoint::EvictionBesidePinned => seen.is_beside_pinned(),
+            BankPoint::EvictionOfLastUnpinned => seen.is_last_unpinned(shape.level2.ways),
+            BankPoint::SecondPrimaryBesidePinned => seen.is_at_pinned(),
+            BankPoint::SecondPrimaryAllPinned => seen.is_at_all_pinned(shape.level2.ways),
             BankPoint::Numbered(measure, number) => {
                 measure.number_of(shape, before, after, seen, item) == Some(number)
             }

@@ -5,7 +5,7 @@ ghost use Rattle.lf_rules.specs.InRange.{IsShape};
 ghost use Rattle.count_coverage.specs.Reachable.{requests, most_held, joins, can_merge, most_targets, fields};
 ghost use Rattle.count_coverage.specs.Reachable.{exceeds_registers, exceeds_entries, exceeds_field, can_stall};
 ghost use Rattle.count_coverage.specs.Reachable.{joins2, can_merge2, most_asked, most_targets2, can_stall2};
-ghost use Rattle.count_coverage.specs.Reachable.{can_have, can_reach};
+ghost use Rattle.count_coverage.specs.Reachable.{most_lines2, can_evict_under_supply, can_have, can_reach};
 
 use crate::point::{BankPoint, Measure};
 use crate::reach::is_implicit;
@@ -156,6 +156,22 @@ fn can_stall2(shape: &Shape) -> bool
         || exceeds_entries(organisation, most_asked(shape))
 }
 
+/// How many lines level two of a bank can have.
+fn most_lines2(shape: &Shape) -> u32
+    requires { IsShape shape.now }
+    ensures { result ≡ most_lines2 shape.now }
+{
+    shape.level2.sets * shape.level2.ways
+}
+
+/// Whether level one can give up a line while a block is supplied: level two has both.
+fn can_evict_under_supply(shape: &Shape) -> bool
+    requires { IsShape shape.now }
+    ensures { result ≡ can_evict_under_supply shape.now }
+{
+    1 < most_lines2(shape) || 1 < shape.factor
+}
+
 /// Whether an event can have the number.
 fn can_have(shape: &Shape, measure: Measure, number: u32) -> bool
     requires { IsShape shape.now }
@@ -205,6 +221,17 @@ pub(crate) fn can_reach(shape: &Shape, point: BankPoint) -> bool
             exceeds_entries(&shape.level2.organisation, most_asked(shape))
         }
         BankPoint::FillOutOfOrder => 1 < most_held(shape),
+        BankPoint::EvictionUnderSupply => can_evict_under_supply(shape),
+        BankPoint::EvictionOfOtherSet => 1 < shape.level1.sets && can_evict_under_supply(shape),
+        BankPoint::SecondEvictionUnderSupply => 1 < most_lines2(shape),
+        BankPoint::SecondEvictionOfSameSet | BankPoint::EvictionBesidePinned => {
+            1 < shape.level2.ways
+        }
+        BankPoint::EvictionOfLastUnpinned => {
+            1 < shape.level2.ways && shape.level2.ways <= most_held(shape) + 1
+        }
+        BankPoint::SecondPrimaryBesidePinned => 1 < most_held(shape),
+        BankPoint::SecondPrimaryAllPinned => shape.level2.ways < most_held(shape),
         BankPoint::Numbered(measure, number) => can_have(shape, measure, number),
         _ => true,
     }

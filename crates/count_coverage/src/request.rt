@@ -1,7 +1,9 @@
 //! The requests of the ports, as a bank sees them.
 
 ghost use Rattle.std.specs.Prelude.{◌≡◌, ◌+◌, ◌*◌, ◌<◌, ℕ, None, length, IfOk, slice_index_or};
-ghost use Rattle.count_coverage.specs.Standing.{latest_after};
+ghost use Rattle.lf_rules.specs.Address.{set2_of};
+ghost use Rattle.lf_rules.specs.InRange.{IsShape};
+ghost use Rattle.count_coverage.specs.Standing.{latest_after, request_of};
 ghost use Rattle.count_coverage.specs.Kept.{latest_in};
 
 use lf_rules::{NoMemory, Op, Shape, wide_quotient, wide_remainder};
@@ -18,6 +20,38 @@ pub(crate) struct Request {
     pub block: u64,
     /// The place of its 8 bytes in the block, from 0.
     pub field: u32,
+    /// The second-level block of its block.
+    pub second: u64,
+    /// The set of that in level two.
+    pub set2: u32,
+}
+
+/// The set of a second-level block in level two.
+pub(crate) fn set2_of(shape: &Shape, second: u64) -> u32
+    requires { IsShape shape.now }
+    ensures { result ≡ set2_of shape.now.banks shape.now.level2.sets second }
+{
+    let of_bank = wide_quotient(second, u64::from(shape.banks));
+    wide_remainder(of_bank, u64::from(shape.level2.sets)) as u32
+}
+
+impl Request {
+    /// The request of a kind for an address.
+    fn of(shape: &Shape, op: Op, address: u64) -> Self
+        requires { IsShape shape.now }
+        ensures { result ≡ request_of shape.now op address }
+    {
+        let size = u64::from(shape.block);
+        let block = wide_quotient(address, size);
+        let second = wide_quotient(block, u64::from(shape.factor));
+        Request {
+            op,
+            block,
+            field: wide_remainder(address, size) as u32 / 8,
+            second,
+            set2: set2_of(shape, second),
+        }
+    }
 }
 
 fn place_of(port: u8, tag: u8) -> usize
@@ -61,7 +95,7 @@ impl Requests {
 
     /// Keeps the request, where the record issues one.
     pub fn keep(&mut self, shape: &Shape, item: &RecordView<'_>)
-        requires block { 0 < shape.now.block }
+        requires in_range { IsShape shape.now }
         requires len { length self.old.0.items ≡ 65536 }
         ensures len { length self.new.0.items ≡ 65536 }
         ensures latest { (port tag : ℕ) → port < 256 → tag < 256
@@ -74,12 +108,7 @@ impl Requests {
             ..
         } = item.event()
         {
-            let size = u64::from(shape.block);
-            self.0[place_of(item.log(), *tag)] = Some(Request {
-                op: *op,
-                block: wide_quotient(*address, size),
-                field: wide_remainder(*address, size) as u32 / 8,
-            });
+            self.0[place_of(item.log(), *tag)] = Some(Request::of(shape, *op, *address));
         }
     }
 }

@@ -1,10 +1,13 @@
 //! What the records before an event say of it.
 
 ghost use Rattle.std.specs.Prelude.{◌≡◌};
-ghost use Rattle.count_coverage.specs.Sights.{load_behind_load, load_behind_store, store_behind_load, store_behind_store};
+ghost use Rattle.count_coverage.specs.Sights.{load_behind_load, load_behind_store, store_behind_load};
+ghost use Rattle.count_coverage.specs.Sights.{store_behind_store};
 ghost use Rattle.count_coverage.specs.Sights.{lacks_register, lacks_place, lacks_register2, lacks_place2};
 ghost use Rattle.count_coverage.specs.Sights.{is_refetch, is_refetch2, overtakes, is_over_stores};
 ghost use Rattle.count_coverage.specs.Sights.{targets_made, field_taken, targets_made2};
+ghost use Rattle.count_coverage.specs.Sights.{is_under_supply, is_of_other_set, is_under_supply2, is_of_same_set2};
+ghost use Rattle.count_coverage.specs.Sights.{is_beside_pinned, is_last_unpinned, is_at_pinned, is_at_all_pinned};
 
 use lf_rules::Op;
 
@@ -38,13 +41,26 @@ pub(crate) enum Sight {
     SecondJoined {
         targets: u32,
     },
-    /// A miss of level two takes a register, for a second-level block that was written back before or not.
+    /// A miss of level two takes a register, for a second-level block that was written back before or not, and how
+    /// many lines of its set are pinned.
     SecondTaken {
         again: bool,
+        pinned: u32,
     },
     /// A miss of level two finds no room, and a register holds its second-level block or none does.
     SecondStalled {
         held: bool,
+    },
+    /// Level one gives up a line: while a block is supplied or not, and while one of the line's set is or not.
+    Evicted {
+        supplied: bool,
+        same_set: bool,
+    },
+    /// Level two gives up a line: the same, and how many lines of its set are pinned.
+    SecondEvicted {
+        supplied: bool,
+        same_set: bool,
+        pinned: u32,
     },
 }
 
@@ -154,7 +170,7 @@ impl Sight {
     pub fn is_refetch2(self) -> bool
         ensures { result ≡ is_refetch2 self }
     {
-        matches!(self, Sight::SecondTaken { again: true })
+        matches!(self, Sight::SecondTaken { again: true, .. })
     }
 
     /// How many requests wait for a block, where a miss joins them.
@@ -184,6 +200,79 @@ impl Sight {
         match self {
             Sight::SecondJoined { targets } => Some(targets),
             _ => None,
+        }
+    }
+    /// Level one gives up a line while a block is supplied.
+    pub fn is_under_supply(self) -> bool
+        ensures { result ≡ is_under_supply self }
+    {
+        matches!(self, Sight::Evicted { supplied: true, .. })
+    }
+
+    /// Level one gives up a line while a block is supplied, but none of its set.
+    pub fn is_of_other_set(self) -> bool
+        ensures { result ≡ is_of_other_set self }
+    {
+        matches!(
+            self,
+            Sight::Evicted {
+                supplied: true,
+                same_set: false,
+            }
+        )
+    }
+
+    /// Level two gives up a line while a block is supplied.
+    pub fn is_under_supply2(self) -> bool
+        ensures { result ≡ is_under_supply2 self }
+    {
+        matches!(self, Sight::SecondEvicted { supplied: true, .. })
+    }
+
+    /// Level two gives up a line while a block of its set is supplied.
+    pub fn is_of_same_set2(self) -> bool
+        ensures { result ≡ is_of_same_set2 self }
+    {
+        matches!(self, Sight::SecondEvicted { same_set: true, .. })
+    }
+
+    /// Level two gives up a line while another line of its set is pinned.
+    pub fn is_beside_pinned(self) -> bool
+        ensures { result ≡ is_beside_pinned self }
+    {
+        match self {
+            Sight::SecondEvicted { pinned, .. } => 0 < pinned,
+            _ => false,
+        }
+    }
+
+    /// Level two gives up a line while each other way of its set, which has so many, has a pinned line.
+    pub fn is_last_unpinned(self, ways: u32) -> bool
+        ensures { result ≡ is_last_unpinned ways self }
+    {
+        match self {
+            Sight::SecondEvicted { pinned, .. } => pinned == ways.saturating_sub(1),
+            _ => false,
+        }
+    }
+
+    /// A miss takes a register of level two while a line of its set is pinned.
+    pub fn is_at_pinned(self) -> bool
+        ensures { result ≡ is_at_pinned self }
+    {
+        match self {
+            Sight::SecondTaken { pinned, .. } => 0 < pinned,
+            _ => false,
+        }
+    }
+
+    /// A miss takes a register of level two while each way of its set, which has so many, has a pinned line.
+    pub fn is_at_all_pinned(self, ways: u32) -> bool
+        ensures { result ≡ is_at_all_pinned ways self }
+    {
+        match self {
+            Sight::SecondTaken { pinned, .. } => pinned == ways,
+            _ => false,
         }
     }
 }

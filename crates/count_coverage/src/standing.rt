@@ -2,15 +2,20 @@
 
 ghost use Rattle.std.specs.Prelude.{◌≡◌, ℕ, ◌+◌, ◌<◌, ◌^◌, not, ◌||◌, ◌==◌};
 ghost use Rattle.std.specs.Prelude.{length, filter, IfOk, OnOk, vec_len};
+ghost use Rattle.lf_rules.specs.InRange.{IsShape};
 ghost use Rattle.count_coverage.specs.Standing.{Standing, at_first, standing_after, waiting_after, writes_back};
 ghost use Rattle.count_coverage.specs.Standing.{last_kind, waits_for, targets, is_behind_others, has_store};
 ghost use Rattle.count_coverage.specs.Standing.{waiting2_after, waits_for2, targets2, writes_back2};
+ghost use Rattle.count_coverage.specs.Standing.{supplied_after, has_line2};
 ghost use Rattle.count_coverage.specs.Sights.{joined, joined_if, taken_if, stalled_if, filled, sight_by};
+ghost use Rattle.count_coverage.specs.Sights.{second_taken, second_evicted};
 ghost use Rattle.count_coverage.specs.Kept.{IsKept, is_in};
 
+use crate::pinned::pinned;
 use crate::reach::dirty_blocks;
-use crate::request::{Request, Requests};
+use crate::request::{Request, Requests, set2_of};
 use crate::sight::Sight;
+use crate::supply::{Asked, evicted, is_for_set2, is_some, set1_of, supply, take_up};
 use lf_rules::{NoMemory, Op, Shape, quotient};
 use std::alloc::Global;
 use std::collections::HashSet;
@@ -119,22 +124,25 @@ fn leave(waiting: &mut Vec<Request>, block: u64)
     waiting.retain(|request| request.block != block);
 }
 
-/// Whether one of these is the second-level block.
-fn waits_for2(waiting: &[u32], second: u32) -> bool
+/// Whether one of these is of the second-level block.
+fn waits_for2(waiting: &[Asked], second: u32) -> bool
     ensures { result ≡ waits_for2 second waiting.now }
 {
-    waiting.iter().any(|other| *other == second)
+    waiting.iter().any(|asked| asked.second == second)
 }
 
-/// How many of these are the second-level block.
-fn targets2(waiting: &[u32], second: u32) -> usize
+/// How many of these are of the second-level block.
+fn targets2(waiting: &[Asked], second: u32) -> usize
     ensures { result ≡ targets2 second waiting.now }
 {
-    waiting.iter().filter(|other| **other == second).count()
+    waiting
+        .iter()
+        .filter(|asked| asked.second == second)
+        .count()
 }
 
 /// What is seen of a miss of level two that joins others.
-fn second_joined(waiting: &[u32], second: u32) -> Sight
+fn second_joined(waiting: &[Asked], second: u32) -> Sight
     requires few { length waiting.now < 2 ^ 29 }
     ensures { result ≡ Sight.SecondJoined (targets2 second waiting.now + 1) }
 {
@@ -144,10 +152,10 @@ fn second_joined(waiting: &[u32], second: u32) -> Sight
 }
 
 /// The others stay.
-fn leave2(waiting: &mut Vec<u32>, second: u32)
-    ensures { waiting.new.items ≡ filter (λ other. not (other == second)) waiting.old.items }
+fn leave2(waiting: &mut Vec<Asked>, second: u32)
+    ensures { waiting.new.items ≡ filter (λ asked. not (asked.second == second)) waiting.old.items }
 {
-    waiting.retain(|other| *other != second);
+    waiting.retain(|asked| asked.second != second);
 }
 
 /// What a bank's records so far say of the next one.
@@ -158,10 +166,14 @@ pub(crate) struct Kept {
     waiting: Vec<Request>,
     /// The blocks that were written back.
     written: HashSet<u64>,
-    /// The second-level blocks of the misses that wait for level two.
-    waiting2: Vec<u32>,
+    /// The blocks of the misses that wait for level two.
+    waiting2: Vec<Asked>,
     /// The second-level blocks that were written back.
     written2: HashSet<u32>,
+    /// The second-level blocks that level two has.
+    lines2: HashSet<u64>,
+    /// The blocks that level two supplied and level one did not get yet.
+    supplied: Vec<Asked>,
 }
 
 impl Kept {
@@ -175,6 +187,8 @@ impl Kept {
             written: HashSet::new(alloc),
             waiting2: Vec::new(alloc),
             written2: HashSet::new(alloc),
+            lines2: HashSet::new(alloc),
+            supplied: Vec::new(alloc),
         })
     }
 
@@ -192,9 +206,37 @@ impl Kept {
         }
     }
 
+    /// What is seen of a miss of level two that takes a register.
+    fn second_taken(&self, shape: &Shape, block: u32) -> Sight
+        requires in_range { IsShape shape.now }
+        requires few { vec_len self.now.waiting < 2 ^ 29 }
+        ensures { (s : Standing) → IsKept self.now s → result ≡ second_taken shape.now s block }
+    {
+        let Asked { second, set2, .. } = Asked::of(shape, block);
+        Sight::SecondTaken {
+            again: self.written2.contains(&second),
+            pinned: pinned(self.waiting.as_slice(), &self.lines2, set2),
+        }
+    }
+
+    /// What is seen of a line that level two gives up.
+    fn second_evicted(&self, shape: &Shape, second: u32) -> Sight
+        requires in_range { IsShape shape.now }
+        requires few { vec_len self.now.waiting < 2 ^ 29 }
+        ensures { (s : Standing) → IsKept self.now s → result ≡ second_evicted shape.now s second }
+    {
+        let set = set2_of(shape, u64::from(second));
+        let supplied = self.supplied.as_slice();
+        Sight::SecondEvicted {
+            supplied: is_some(supplied),
+            same_set: is_for_set2(supplied, set),
+            pinned: pinned(self.waiting.as_slice(), &self.lines2, set),
+        }
+    }
+
     /// What is seen of the next event.
     pub fn sight(&self, shape: &Shape, item: &RecordView<'_>) -> Sight
-        requires factor { 0 < shape.now.factor }
+        requires in_range { IsShape shape.now }
         requires len { length self.now.requests.0.items ≡ 65536 }
         requires few { vec_len self.now.waiting < 2 ^ 29 }
         requires few2 { vec_len self.now.waiting2 < 2 ^ 29 }
@@ -212,15 +254,18 @@ impl Kept {
                 self.requests.latest(*port, *tag),
             ),
             EventView::Fill1 { block, .. } => filled(waiting, u64::from(*block)),
-            EventView::SecondPrimary { block, .. } => Sight::SecondTaken {
-                again: self.written2.contains(&quotient(*block, shape.factor)),
-            },
+            EventView::Evict1 { block, .. } => evicted(
+                self.supplied.as_slice(),
+                set1_of(shape, *block),
+            ),
+            EventView::SecondPrimary { block, .. } => self.second_taken(shape, *block),
             EventView::SecondMerge { block, .. } => {
                 second_joined(waiting2, quotient(*block, shape.factor))
             }
             EventView::SecondStall { block } => Sight::SecondStalled {
                 held: waits_for2(waiting2, quotient(*block, shape.factor)),
             },
+            EventView::Evict2 { block, .. } => self.second_evicted(shape, *block),
             _ => Sight::Plain,
         }
     }
@@ -232,6 +277,8 @@ impl Kept {
         ensures written { self.new.written ≡ self.old.written }
         ensures waiting2 { self.new.waiting2 ≡ self.old.waiting2 }
         ensures written2 { self.new.written2 ≡ self.old.written2 }
+        ensures lines2 { self.new.lines2 ≡ self.old.lines2 }
+        ensures supplied { self.new.supplied ≡ self.old.supplied }
         ensures waiting { OnOk result ((s : Standing) → IsKept self.old s
             → self.new.waiting.items ≡ waiting_after s.latest item.now.event s.waiting) }
     {
@@ -249,17 +296,19 @@ impl Kept {
 
     /// Keeps what waits for level two after the event.
     fn wait2(&mut self, shape: &Shape, item: &RecordView<'_>) -> Result<(), NoMemory>
-        requires factor { 0 < shape.now.factor }
+        requires in_range { IsShape shape.now }
         ensures requests { self.new.requests ≡ self.old.requests }
         ensures waiting { self.new.waiting ≡ self.old.waiting }
         ensures written { self.new.written ≡ self.old.written }
         ensures written2 { self.new.written2 ≡ self.old.written2 }
+        ensures lines2 { self.new.lines2 ≡ self.old.lines2 }
+        ensures supplied { self.new.supplied ≡ self.old.supplied }
         ensures waiting2 { OnOk result (self.new.waiting2.items
             ≡ waiting2_after shape.now item.now.event self.old.waiting2.items) }
     {
         match item.event() {
             EventView::SecondPrimary { block, .. } | EventView::SecondMerge { block, .. } => {
-                self.waiting2.push(quotient(*block, shape.factor))?;
+                self.waiting2.push(Asked::of(shape, *block))?;
             }
             EventView::Fill2 { block, .. } => leave2(&mut self.waiting2, *block),
             _ => {}
@@ -273,6 +322,8 @@ impl Kept {
         ensures waiting { self.new.waiting ≡ self.old.waiting }
         ensures waiting2 { self.new.waiting2 ≡ self.old.waiting2 }
         ensures written2 { self.new.written2 ≡ self.old.written2 }
+        ensures lines2 { self.new.lines2 ≡ self.old.lines2 }
+        ensures supplied { self.new.supplied ≡ self.old.supplied }
         ensures written { OnOk result ((block : ℕ)
             → is_in self.new.written block ≡ (writes_back item.now.event block || is_in self.old.written block)) }
     {
@@ -290,6 +341,8 @@ impl Kept {
         ensures waiting { self.new.waiting ≡ self.old.waiting }
         ensures written { self.new.written ≡ self.old.written }
         ensures waiting2 { self.new.waiting2 ≡ self.old.waiting2 }
+        ensures lines2 { self.new.lines2 ≡ self.old.lines2 }
+        ensures supplied { self.new.supplied ≡ self.old.supplied }
         ensures written2 { OnOk result ((second : ℕ)
             → is_in self.new.written2 second ≡ (writes_back2 item.now.event second || is_in self.old.written2 second)) }
     {
@@ -301,15 +354,62 @@ impl Kept {
         Ok(())
     }
 
+    /// Keeps what level two has supplied. It looks at those that wait before the event.
+    fn supply(&mut self, shape: &Shape, item: &RecordView<'_>) -> Result<(), NoMemory>
+        requires in_range { IsShape shape.now }
+        ensures requests { self.new.requests ≡ self.old.requests }
+        ensures waiting { self.new.waiting ≡ self.old.waiting }
+        ensures written { self.new.written ≡ self.old.written }
+        ensures waiting2 { self.new.waiting2 ≡ self.old.waiting2 }
+        ensures written2 { self.new.written2 ≡ self.old.written2 }
+        ensures lines2 { self.new.lines2 ≡ self.old.lines2 }
+        ensures supplied { OnOk result (self.new.supplied.items
+            ≡ supplied_after shape.now self.old.waiting2.items item.now.event self.old.supplied.items) }
+    {
+        match item.event() {
+            EventView::SecondHit { block } => self.supplied.push(Asked::of(shape, *block))?,
+            EventView::Fill2 { block, .. } => {
+                supply(&mut self.supplied, self.waiting2.as_slice(), *block)?;
+            }
+            EventView::Fill1 { block, .. } => take_up(&mut self.supplied, *block),
+            _ => {}
+        }
+        Ok(())
+    }
+
+    /// Keeps which lines level two has.
+    fn hold(&mut self, item: &RecordView<'_>) -> Result<(), NoMemory>
+        ensures requests { self.new.requests ≡ self.old.requests }
+        ensures waiting { self.new.waiting ≡ self.old.waiting }
+        ensures written { self.new.written ≡ self.old.written }
+        ensures waiting2 { self.new.waiting2 ≡ self.old.waiting2 }
+        ensures written2 { self.new.written2 ≡ self.old.written2 }
+        ensures supplied { self.new.supplied ≡ self.old.supplied }
+        ensures lines2 { OnOk result ((second : ℕ)
+            → is_in self.new.lines2 second ≡ has_line2 item.now.event second (is_in self.old.lines2 second)) }
+    {
+        match item.event() {
+            EventView::Fill2 { block, .. } => {
+                let _ = self.lines2.insert(u64::from(*block))?;
+            }
+            EventView::Evict2 { block, .. } => {
+                let _ = self.lines2.remove(&u64::from(*block));
+            }
+            _ => {}
+        }
+        Ok(())
+    }
+
     /// Takes one more record.
     pub fn take(&mut self, shape: &Shape, item: &RecordView<'_>) -> Result<(), NoMemory>
-        requires block { 0 < shape.now.block }
-        requires factor { 0 < shape.now.factor }
+        requires in_range { IsShape shape.now }
         requires len { length self.old.requests.0.items ≡ 65536 }
         ensures { OnOk result ((s : Standing) → IsKept self.old s
             → IsKept self.new (standing_after shape.now item.now s)) }
     {
         self.wait(item)?;
+        self.supply(shape, item)?;
+        self.hold(item)?;
         self.wait2(shape, item)?;
         self.write_back(item)?;
         self.write_back2(item)?;

@@ -2,16 +2,16 @@
 use Rattle.std.specs.Prelude.{◌≡◌, ℕ, Bool, true, false, List, [], ◌∷◌, ◌++◌, Some, codes}
 use Rattle.json.specs.Lex.{tokens}
 use Rattle.json.specs.Print.{print}
-use Rattle.lf_verdict.specs.declared.answer.Verdict.{Verdict}
-use Rattle.lf_verdict.specs.declared.answer.Verdict.TheVariants.{Yes, No, Refused}
+use Rattle.lf_verdict.specs.declared.answer.Outcome.{Outcome}
+use Rattle.lf_verdict.specs.declared.answer.Outcome.TheVariants.{Yes, No, Refused}
 use Rattle.serde_json.specs.Data.{Data, string, object, Members, put}
 use Rattle.serde_json.specs.Find.{get}
 use Rattle.serde_json.specs.Written.{IsInOrder, has_float, compact_text}
 
 -- the word that an answer begins with: that of the verdict, and "no" where a legal trace is not complete
-abbrev pub word_of : Verdict → Bool → List ℕ
-word_of (Yes events order) true = codes "yes"
-word_of (Yes events order) false = codes "no"
+abbrev pub word_of : Outcome → Bool → List ℕ
+word_of (Yes events) true = codes "yes"
+word_of (Yes events) false = codes "no"
 word_of (No fault) complete = codes "no"
 word_of (Refused refusal) complete = codes "refused"
 

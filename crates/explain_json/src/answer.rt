@@ -10,10 +10,10 @@ use crate::fault::set_faults;
 use crate::incomplete::incomplete_json;
 use crate::object::Object;
 use crate::usage::usage_json;
-use explain_refusal::ConfigRefusal;
+use explain_refusal::{ConfigRefusal, toml_fault};
 use explain_why::{Why, WhyText};
 use lf_rules::{NoMemory, Shape};
-use lf_verdict::{Refusal, Verdict};
+use lf_verdict::{Outcome, Refusal};
 use serde_json::Value;
 use std::alloc::Global;
 
@@ -31,7 +31,7 @@ pub struct Told<'a> {
 pub struct Answer<'a> {
     /// The line of the verdict, without a newline.
     pub line: &'a str,
-    pub verdict: &'a Verdict,
+    pub outcome: &'a Outcome,
     /// Whether no request without a reply was found in a legal trace, or none was looked for.
     pub is_complete: bool,
     /// The text of the configuration.
@@ -41,14 +41,14 @@ pub struct Answer<'a> {
 }
 
 /// The word of an answer. A legal trace that is not complete gets a no.
-fn word_of(verdict: &Verdict, is_complete: bool) -> &'static str
-    ensures { result.now ≡ word_of verdict.now is_complete }
+fn word_of(outcome: &Outcome, is_complete: bool) -> &'static str
+    ensures { result.now ≡ word_of outcome.now is_complete }
 {
-    match verdict {
-        Verdict::Yes { .. } if is_complete => "yes",
-        Verdict::Yes { .. } => "no",
-        Verdict::No(_) => "no",
-        Verdict::Refused(_) => "refused",
+    match outcome {
+        Outcome::Yes { .. } if is_complete => "yes",
+        Outcome::Yes { .. } => "no",
+        Outcome::No(_) => "no",
+        Outcome::Refused(_) => "refused",
     }
 }
 
@@ -78,14 +78,16 @@ fn set_why(object: &mut Object, told: &Told<'_>) -> Result<(), NoMemory> {
 
 /// What an answer says of its verdict beside the line.
 fn set_verdict(object: &mut Object, answer: &Answer<'_>) -> Result<(), NoMemory> {
-    match answer.verdict {
-        Verdict::Yes { events, .. } if answer.is_complete => {
+    match answer.outcome {
+        Outcome::Yes { events } if answer.is_complete => {
             object.set("events", Value::from(*events))
         }
-        Verdict::Refused(Refusal::Config(fault)) => {
+        Outcome::Refused(Refusal::Config(fault)) => {
+            let stop = toml_fault(object.alloc, answer.config)?;
             let refusal = ConfigRefusal {
                 text: answer.config,
                 fault,
+                stop: &stop,
             };
             let lines = format!(in object.alloc; "{refusal}")?;
             object.set("explanation", lines_json(object.alloc, lines.as_str())?)
@@ -110,14 +112,14 @@ fn answer_text(mut object: Object, line: &str, word: &str) -> Result<String, NoM
 /// A verdict and why it is what it is, as an object on a line, with a newline at its end.
 pub fn explained_json(alloc: Global, answer: &Answer<'_>) -> Result<String, NoMemory>
     ensures { IfOk result (λ text.
-        IsAnswer answer.now.line.now (word_of answer.now.verdict.now answer.now.is_complete) (string_bytes text)) }
+        IsAnswer answer.now.line.now (word_of answer.now.outcome.now answer.now.is_complete) (string_bytes text)) }
 {
     let mut object = Object::new(alloc);
     set_verdict(&mut object, answer)?;
     if let Some(told) = &answer.told {
         set_why(&mut object, told)?;
     }
-    let word = word_of(answer.verdict, answer.is_complete);
+    let word = word_of(answer.outcome, answer.is_complete);
     answer_text(object, answer.line, word)
 }
 

@@ -10,7 +10,7 @@ use explain_history::{record_at, room};
 use explain_lines::Listing;
 use explain_origins::Origins;
 use explain_replay::Broken;
-use explain_rule::{Explanation, Limit, sentence_of};
+use explain_rule::{Explanation, Limit, Taken, sentence_of};
 use lf_codec::Packed;
 use lf_rules::{NoMemory, Rule};
 use serde_json::{Value, json};
@@ -77,6 +77,16 @@ fn free_json(free: Option<u32>) -> Value {
     match free {
         Some(register) => Value::from(register),
         None => Value::Null,
+    }
+}
+
+/// The register that holds the block and its targets, and null where they are not told.
+fn taken_json(alloc: Global, taken: Option<Taken>) -> Result<Value, NoMemory> {
+    match taken {
+        Some(Taken { register, targets }) => {
+            Ok(json!(in alloc; {"register": register, "targets": targets})?)
+        }
+        None => Ok(Value::Null),
     }
 }
 
@@ -159,6 +169,7 @@ pub(crate) fn breach_json(
     set_rule(&mut object, why.rule)?;
     object.set("limit", limit_json(alloc, why.limit)?)?;
     object.set("free_register", free_json(why.free))?;
+    object.set("taken", taken_json(alloc, why.taken)?)?;
     if let Some(place) = why.history.place {
         set_place(&mut object, listing, place, &why.broken)?;
     }

@@ -13,7 +13,9 @@ use Rattle.lf_config.specs.declared.key.Key.{Key}
 use Rattle.lf_config.specs.declared.key.Key.TheVariants as keys
 use Rattle.lf_config.specs.Key.{name_of}
 use Rattle.lf_config.specs.Text.{key_text}
-use Rattle.explain_refusal.specs.Lines.{key_line_in}
+use Rattle.explain_refusal.specs.declared.stop.TomlFault.{TomlFault}
+use Rattle.explain_refusal.specs.Keys.{key_line_in}
+use Rattle.explain_refusal.specs.Lines.{line_at_in}
 
 -- ---- the line of a key
 
@@ -25,19 +27,19 @@ abbrev pub numbered_text : Option (ℕ × List ℕ) → List ℕ
 numbered_text None = []
 numbered_text (Some line) = codes "  line " ++ decimal line.0 ++ codes ": " ++ flat_map shown line.1 ++ 10 ∷ []
 
--- the first line of the heading's table that says the key, where there is one
+-- the first line that says the key of the table, where there is one
 abbrev pub place_text : List ℕ → List ℕ → List ℕ → List ℕ
-place_text heading name text = numbered_text (key_line_in heading name text)
+place_text table name text = numbered_text (key_line_in table name text)
 
-abbrev pub level_heading : LevelKey → List ℕ
-level_heading One = codes "[level1]"
-level_heading Two = codes "[level2]"
+abbrev pub level_table : LevelKey → List ℕ
+level_table One = codes "level1"
+level_table Two = codes "level2"
 
--- the line that begins the table in which a key stands; none begins the table of the whole text
-abbrev pub heading_of : Key → List ℕ
-heading_of (keys.Of level part) = level_heading level
-heading_of keys.Blocks = level_heading Two
-heading_of _ = []
+-- the name of the table in which a key stands; that of the whole text has none
+abbrev pub table_of : Key → List ℕ
+table_of (keys.Of level part) = level_table level
+table_of keys.Blocks = level_table Two
+table_of _ = []
 
 -- ---- what is asked
 
@@ -62,15 +64,15 @@ values_of keys.Blocks = codes "1, 2 or 4, the blocks of a second-level block, an
 abbrev pub key_fault_text : Key → List ℕ → List ℕ → List ℕ
 key_fault_text key what text =
     key_text key ++ codes " " ++ what ++ codes "; it is " ++ values_of key ++ 10 ∷ []
-    ++ place_text (heading_of key) (name_of key) text
+    ++ place_text (table_of key) (name_of key) text
 
 -- ---- a name that is no key
 
 -- a name of a level begins with that of the level
-abbrev pub unknown_heading : List ℕ → List ℕ
-unknown_heading name =
-    if starts_with nat_eq name (codes "level1.") then codes "[level1]"
-    else if starts_with nat_eq name (codes "level2.") then codes "[level2]"
+abbrev pub unknown_table : List ℕ → List ℕ
+unknown_table name =
+    if starts_with nat_eq name (codes "level1.") then codes "level1"
+    else if starts_with nat_eq name (codes "level2.") then codes "level2"
     else []
 
 abbrev pub is_of_level : List ℕ → Bool
@@ -83,14 +85,31 @@ abbrev pub unknown_text : List ℕ → List ℕ → List ℕ
 unknown_text name text =
     codes "the keys are ports, banks, block, tags, level1 and level2, of these two "
     ++ codes "sets, ways, organisation, registers and entries, and of level2 also blocks" ++ 10 ∷ []
-    ++ place_text (unknown_heading name) (unknown_name name) text
+    ++ place_text (unknown_table name) (unknown_name name) text
+
+-- ---- a text that is no TOML
+
+abbrev pub placed_text : Option (ℕ × (ℕ × List ℕ)) → List ℕ
+placed_text None = []
+placed_text (Some place) =
+    codes "  line " ++ decimal place.0 ++ codes ", column " ++ decimal place.1.0 ++ codes ": "
+    ++ flat_map shown place.1.1 ++ 10 ∷ []
+
+-- the line in which so many bytes of the text end
+abbrev pub stop_line : ℕ → List ℕ → List ℕ
+stop_line offset text = placed_text (line_at_in offset text)
+
+abbrev pub stop_text : Option TomlFault → List ℕ → List ℕ
+stop_text None text = codes "the text is no TOML document" ++ 10 ∷ []
+stop_text (Some stop) text =
+    codes "the text is no TOML document: " ++ string_bytes stop.reason ++ 10 ∷ [] ++ stop_line stop.offset text
 
 -- ---- each fault
 
-abbrev pub config_text : ConfigFault → List ℕ → List ℕ
-config_text faults.NotToml text = codes "the text is no TOML document" ++ 10 ∷ []
-config_text (faults.Unknown name) text = unknown_text (string_bytes name) text
-config_text (faults.Missing key) text = key_fault_text key (codes "is missing") text
-config_text (faults.Kind key) text = key_fault_text key (codes "has a value of another type") text
-config_text (faults.Range key) text = key_fault_text key (codes "has a value that it may not have") text
-config_text faults.NoMemory text = codes "memory ran out" ++ 10 ∷ []
+abbrev pub config_text : ConfigFault → Option TomlFault → List ℕ → List ℕ
+config_text faults.NotToml stop text = stop_text stop text
+config_text (faults.Unknown name) stop text = unknown_text (string_bytes name) text
+config_text (faults.Missing key) stop text = key_fault_text key (codes "is missing") text
+config_text (faults.Kind key) stop text = key_fault_text key (codes "has a value of another type") text
+config_text (faults.Range key) stop text = key_fault_text key (codes "has a value that it may not have") text
+config_text faults.NoMemory stop text = codes "memory ran out" ++ 10 ∷ []

@@ -6,5 +6,7 @@ pub mod Finding
 pub mod Field
 pub mod Allowed
 pub mod Part
+pub mod Stop
+pub mod Keys
 pub mod Lines
 pub mod Bytes

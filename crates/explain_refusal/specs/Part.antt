@@ -1,5 +1,5 @@
 -- The parts of a trace, and how many bytes each has.
-use Rattle.std.specs.Prelude.{ℕ, ◌+◌, ◌*◌, ◌==◌, ◌&&◌, ◌||◌, nat_lt, List, ◌++◌, length, drop, codes, if◌then◌else◌}
+use Rattle.std.specs.Prelude.{ℕ, ◌+◌, ◌*◌, ◌==◌, ◌&&◌, ◌||◌, nat_lt, List, length, drop, codes, if◌then◌else◌}
 use Rattle.lf_codec.specs.declared.header.Header.{Header}
 use Rattle.lf_codec.specs.Checks.{byte_at}
 use Rattle.lf_codec.specs.Steps.{kind_at, fixed_len, data_len}

@@ -3,21 +3,26 @@
 ghost use Rattle.std.specs.Prelude.{◌≡◌, Some};
 ghost use Rattle.std.specs.List.{flat_map};
 ghost use Rattle.lf_config.specs.Key.{name_of};
-ghost use Rattle.explain_refusal.specs.Config.{shown, level_heading, heading_of, place_text, values_of, key_fault_text};
-ghost use Rattle.explain_refusal.specs.Config.{unknown_heading, unknown_name, unknown_text, config_text};
+ghost use Rattle.explain_refusal.specs.Config.{shown, level_table, table_of, place_text, values_of, key_fault_text};
+ghost use Rattle.explain_refusal.specs.Config.{unknown_table, unknown_name, unknown_text, stop_line, stop_text};
+ghost use Rattle.explain_refusal.specs.Config.{config_text};
 
 use crate::bytes::behind;
-use crate::lines::{KeyPlace, NumberedLine, key_line};
+use crate::keys::KeyPlace;
+use crate::lines::{LinePlace, NumberedLine, key_line, line_at};
+use crate::stop::TomlFault;
 use lf_config::{ConfigFault, Key, LevelKey, Part};
 use std::fmt;
 
-/// Why a text is no configuration. Its text is a line, with its newline, that says what is asked, and where the key
-/// stands in the text a second one with that line.
+/// Why a text is no configuration. Its text is a line, with its newline, that says what is asked or, where the text is
+/// no TOML, what is wrong there, and where the key or that place stands in the text a second one with that line.
 #[derive(Clone, Copy)]
 pub struct ConfigRefusal<'a> {
     /// The text of the configuration.
     pub text: &'a str,
     pub fault: &'a ConfigFault,
+    /// Where the text stops to be TOML, where that is told.
+    pub stop: &'a Option<TomlFault>,
 }
 
 /// Bytes as a terminal may show them: those of ASCII that are printable, and a question mark for any other.
@@ -47,7 +52,7 @@ struct PlaceLine<'a> {
 }
 
 impl fmt::Display for PlaceLine<'_> {
-    ghost output = { λ it. Some (place_text it.place.heading.now it.place.name.now it.text.now) };
+    ghost output = { λ it. Some (place_text it.place.table.now it.place.name.now it.text.now) };
 
     fn fmt<W: fmt::Write>(&self, f: &mut fmt::Formatter<W>) -> fmt::Result {
         let Some(NumberedLine { number, line }) = key_line(self.text, self.place) else {
@@ -58,23 +63,23 @@ impl fmt::Display for PlaceLine<'_> {
     }
 }
 
-/// The line that begins the table of a level.
-fn level_heading(level: LevelKey) -> &'static str
-    ensures { result.now ≡ level_heading level }
+/// The name of the table of a level.
+fn level_table(level: LevelKey) -> &'static str
+    ensures { result.now ≡ level_table level }
 {
     match level {
-        LevelKey::One => "[level1]",
-        LevelKey::Two => "[level2]",
+        LevelKey::One => "level1",
+        LevelKey::Two => "level2",
     }
 }
 
-/// The line that begins the table in which a key stands.
-fn heading_of(key: Key) -> &'static str
-    ensures { result.now ≡ heading_of key }
+/// The name of the table in which a key stands.
+fn table_of(key: Key) -> &'static str
+    ensures { result.now ≡ table_of key }
 {
     match key {
-        Key::Of(level, _) => level_heading(level),
-        Key::Blocks => level_heading(LevelKey::Two),
+        Key::Of(level, _) => level_table(level),
+        Key::Blocks => level_table(LevelKey::Two),
         _ => "",
     }
 }
@@ -142,7 +147,7 @@ impl fmt::Display for KeyFault<'_> {
         let line = PlaceLine {
             text,
             place: KeyPlace {
-                heading: heading_of(key).as_bytes(),
+                table: table_of(key).as_bytes(),
                 name: key_name(key).as_bytes(),
             },
         };
@@ -152,21 +157,21 @@ impl fmt::Display for KeyFault<'_> {
 
 /// Where a name stands that is no key. A name of a level begins with that of the level.
 fn place_of(name: &[u8]) -> KeyPlace<'_>
-    ensures heading { result.heading.now ≡ unknown_heading name.now }
+    ensures table { result.table.now ≡ unknown_table name.now }
     ensures name { result.name.now ≡ unknown_name name.now }
 {
     if name.starts_with(b"level1.") {
         KeyPlace {
-            heading: b"[level1]",
+            table: b"level1",
             name: behind(name, 7),
         }
     } else if name.starts_with(b"level2.") {
         KeyPlace {
-            heading: b"[level2]",
+            table: b"level2",
             name: behind(name, 7),
         }
     } else {
-        KeyPlace { heading: b"", name }
+        KeyPlace { table: b"", name }
     }
 }
 
@@ -191,13 +196,63 @@ impl fmt::Display for UnknownKey<'_> {
     }
 }
 
+/// The line in which a text stops to be TOML.
+#[derive(Clone, Copy)]
+struct StopLine<'a> {
+    text: &'a [u8],
+    offset: usize,
+}
+
+impl fmt::Display for StopLine<'_> {
+    ghost output = { λ it. Some (stop_line it.offset it.text.now) };
+
+    fn fmt<W: fmt::Write>(&self, f: &mut fmt::Formatter<W>) -> fmt::Result {
+        let Some(LinePlace { column, line }) = line_at(self.text, self.offset) else {
+            return Ok(());
+        };
+        let NumberedLine { number, line } = line;
+        let shown = Shown(line);
+        write!(f, "  line {number}, column {column}: {shown}\n")
+    }
+}
+
+/// Why a text is no TOML.
+#[derive(Clone, Copy)]
+struct Stop<'a> {
+    text: &'a [u8],
+    stop: &'a Option<TomlFault>,
+}
+
+impl fmt::Display for Stop<'_> {
+    ghost output = { λ it. Some (stop_text it.stop.now it.text.now) };
+
+    fn fmt<W: fmt::Write>(&self, f: &mut fmt::Formatter<W>) -> fmt::Result {
+        match self.stop {
+            Some(TomlFault { offset, reason }) => {
+                let line = StopLine {
+                    text: self.text,
+                    offset: *offset,
+                };
+                write!(f, "the text is no TOML document: {reason}\n{line}")
+            }
+            None => write!(f, "the text is no TOML document\n"),
+        }
+    }
+}
+
 impl fmt::Display for ConfigRefusal<'_> {
-    ghost output = { λ it. Some (config_text it.fault.now it.text.now) };
+    ghost output = { λ it. Some (config_text it.fault.now it.stop.now it.text.now) };
 
     fn fmt<W: fmt::Write>(&self, f: &mut fmt::Formatter<W>) -> fmt::Result {
         let text = self.text.as_bytes();
         match self.fault {
-            ConfigFault::NotToml => write!(f, "the text is no TOML document\n"),
+            ConfigFault::NotToml => {
+                let stop = Stop {
+                    text,
+                    stop: self.stop,
+                };
+                write!(f, "{stop}")
+            }
             ConfigFault::Unknown(name) => {
                 let name = name.as_str().as_bytes();
                 let unknown = UnknownKey { name, text };

@@ -1,25 +1,25 @@
-//! The line of a text at which a key stands.
+//! The lines of a text: that of an offset, and that at which a key stands.
 
-ghost use Rattle.std.specs.Prelude.{◌≡◌, ◌≤◌, ◌∷◌, Bool, drop, length, nat_eq, option_map};
-ghost use Rattle.std.specs.List.{slice_split, position_or_len, prefix_len, starts_with};
-ghost use Rattle.explain_refusal.specs.Lines.{is_newline, lines_in, left_in, is_blank, from_word, begins, says_key};
-ghost use Rattle.explain_refusal.specs.Lines.{still_inside, key_line_in};
+ghost use Rattle.std.specs.Prelude.{◌≡◌, ◌≤◌, ◌∷◌, Bool, length, option_map};
+ghost use Rattle.std.specs.List.{slice_split, position_or_len};
+ghost use Rattle.explain_refusal.specs.Lines.{is_newline, lines_in, left_in, is_inside, characters, line_at_in};
+ghost use Rattle.explain_refusal.specs.Keys.{key_line_in};
 
 use crate::bytes::{behind, up_to};
-
-/// Where a key stands: under a heading, or before any.
-#[derive(Clone, Copy)]
-pub(crate) struct KeyPlace<'a> {
-    /// The line that begins the table of the key. It is empty where that is the table of the whole text.
-    pub heading: &'a [u8],
-    pub name: &'a [u8],
-}
+use crate::keys::{KeyPlace, Stand, next_stand, says_at};
 
 /// A line, and its number from 1 on.
 #[derive(Clone, Copy)]
 pub(crate) struct NumberedLine<'a> {
     pub number: u64,
     pub line: &'a [u8],
+}
+
+/// A place in a line: its column counts characters from 1 on.
+#[derive(Clone, Copy)]
+pub(crate) struct LinePlace<'a> {
+    pub column: u64,
+    pub line: NumberedLine<'a>,
 }
 
 /// How many bytes stand before the first newline.
@@ -43,65 +43,57 @@ fn split_line(text: &[u8]) -> (&[u8], Option<&[u8]>)
     }
 }
 
-fn is_blank(byte: u8) -> bool
-    ensures { result ≡ is_blank byte }
-{
-    byte == b' ' || byte == b'\t'
-}
-
-/// How many blanks stand before the first word.
-fn margin_len(line: &[u8]) -> usize
-    ensures { result ≡ prefix_len is_blank line.now }
-{
-    line.iter().take_while(|byte| is_blank(**byte)).count()
-}
-
-/// The line from its first word on.
-fn from_word(line: &[u8]) -> &[u8]
-    ensures { result.now ≡ from_word line.now }
-{
-    behind(line, margin_len(line))
-}
-
-/// Whether the first word of the line begins so.
-fn begins(word: &[u8], line: &[u8]) -> bool
-    ensures { result ≡ begins word.now line.now }
-{
-    from_word(line).starts_with(word)
-}
-
-/// Whether the line has the name and then an equals sign.
-fn says_key(name: &[u8], line: &[u8]) -> bool
-    ensures { result ≡ says_key name.now line.now }
-{
-    begins(name, line) && begins(b"=", behind(from_word(line), name.len()))
-}
-
-/// Whether the next line is under the heading, where this line tells whether it is.
-fn still_inside(heading: &[u8], inside: bool, line: &[u8]) -> bool
-    ensures { result ≡ still_inside heading.now inside line.now }
-{
-    if begins(b"[", line) {
-        !heading.is_empty() && begins(heading, line)
-    } else {
-        inside
-    }
-}
-
-/// The first line of its table that says the key.
+/// The first line that says the key.
 pub(crate) fn key_line<'a>(text: &'a [u8], place: KeyPlace<'_>) -> Option<NumberedLine<'a>>
     ensures { option_map (λ l. (l.number, l.line.now)) result
-        ≡ key_line_in place.entry.heading.now place.entry.name.now text.now }
+        ≡ key_line_in place.entry.table.now place.entry.name.now text.now }
 {
     let mut number = 1;
-    let mut inside = place.heading.is_empty();
+    let mut stand = Stand::Top;
     let mut rest = Some(text);
     while let Some(ahead) = rest {
         let (line, behind) = split_line(ahead);
-        if inside && says_key(place.name, line) {
+        if says_at(stand, place, line) {
             return Some(NumberedLine { number, line });
         }
-        inside = still_inside(place.heading, inside, line);
+        stand = next_stand(stand, place.table, line);
+        number += 1;
+        rest = behind;
+    }
+    None
+}
+
+/// Whether the byte is inside a character of several bytes.
+fn is_inside(byte: u8) -> bool
+    ensures { result ≡ is_inside byte }
+{
+    (128..=191).contains(&byte)
+}
+
+/// How many characters begin in these bytes.
+fn characters(bytes: &[u8]) -> u64
+    ensures count { result ≡ characters bytes.now }
+    ensures few { result ≤ length bytes.now }
+{
+    bytes.iter().filter(|byte| !is_inside(**byte)).count() as u64
+}
+
+/// The line in which so many bytes of the text end.
+pub(crate) fn line_at(text: &[u8], offset: usize) -> Option<LinePlace<'_>>
+    ensures { option_map (λ p. (p.line.number, (p.column, p.line.line.now))) result
+        ≡ line_at_in offset text.now }
+{
+    let mut number = 1;
+    let mut left = offset;
+    let mut rest = Some(text);
+    while let Some(ahead) = rest {
+        let (line, behind) = split_line(ahead);
+        if left <= line.len() {
+            let column = characters(up_to(line, left as u64)) + 1;
+            let line = NumberedLine { number, line };
+            return Some(LinePlace { column, line });
+        }
+        left -= line.len() + 1;
         number += 1;
         rest = behind;
     }

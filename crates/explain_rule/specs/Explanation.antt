@@ -18,6 +18,7 @@ use Rattle.explain_rule.specs.Breach.{rule_of}
 use Rattle.explain_rule.specs.Free.{free_at}
 use Rattle.explain_rule.specs.Limit.{limit_at}
 use Rattle.explain_rule.specs.Origins.{ComeFrom}
+use Rattle.explain_rule.specs.Taken.{taken_at}
 
 -- The record that breaks the rule, and the last before it that matter: those of the port's log, or those of the bank
 -- that touch its
@@ -38,9 +39,9 @@ IsBrokenBy shape memory rs (Port port at rule) broken = broken ≡ None
 IsBrokenBy shape memory rs (Bank bank number rule) broken =
     IsFirstBroken shape (bank_part shape bank (flat_memory memory)) (in_order bank rs (number + 1)) broken
 
--- It tells of the rule, of how many there are of what it is about and which one is free, of the record that breaks it,
--- of what that has to carry and which blocks it names, of the records that the state of the rule comes from, of those
--- that are told beside them, and of the records before.
+-- It tells of the rule, of how many there are of what it is about, which one is free and how many are taken, of the
+-- record that breaks it, of what that has to carry and which blocks it names, of the records that the state of the rule
+-- comes from, of those that are told beside them, and of the records before.
 pub record IsExplanation (shape : Shape) (memory : List (ℕ × Bytes)) (rs : List Record) (breach : Breach) (most : ℕ)
     (why : Explanation) : Type 0 where
   pub rule : why.rule ≡ rule_of breach
@@ -50,3 +51,4 @@ pub record IsExplanation (shape : Shape) (memory : List (ℕ × Bytes)) (rs : Li
   pub free : why.free ≡ free_at shape rs (rule_of breach) why.limit why.origins (record_at rs why.history.place)
   pub origins : ComeFrom shape rs breach why.broken why.free (record_at rs why.history.place) why.origins
       why.further.items
+  pub taken : why.taken ≡ taken_at rs (rule_of breach) why.limit why.further.items

@@ -4,6 +4,7 @@ pub mod Carried
 pub mod Explanation
 pub mod Found
 pub mod Free
+pub mod Taken
 pub mod Limit
 pub mod Origins
 pub mod Sentence

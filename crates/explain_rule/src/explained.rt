@@ -12,6 +12,7 @@ use crate::explanation::Explanation;
 use crate::limit::{FreeLine, LimitLine};
 use crate::sentence::sentence_of;
 use crate::state::State;
+use crate::taken::TakenLine;
 use explain_history::{record_at, room};
 use explain_lines::{Listing, RecordLine, RecordLines};
 use explain_origins::{Origins, OriginsText};
@@ -146,11 +147,12 @@ impl fmt::Display for FaultLines<'_> {
         let asked = Asked(self.why.rule);
         let limit = LimitLine(self.why.limit);
         let free = FreeLine(self.why.free);
+        let taken = TakenLine(self.why.taken);
         let carried = RecordCarries {
             listing,
             why: self.why,
         };
-        write!(f, "{record}{asked}{limit}{free}{carried}")
+        write!(f, "{record}{asked}{limit}{free}{taken}{carried}")
     }
 }
 

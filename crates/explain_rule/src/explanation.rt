@@ -11,6 +11,7 @@ use crate::found::{Found, find};
 use crate::free::free_at;
 use crate::limit::{Limit, limit_at};
 use crate::origins::{further_at, origins_at};
+use crate::taken::{Taken, taken_at};
 use explain_history::History;
 use explain_origins::Origins;
 use explain_replay::Broken;
@@ -47,6 +48,8 @@ pub struct Explanation {
     pub limit: Option<Limit>,
     /// Where a stall waits for no reason, the register that is free.
     pub free: Option<u32>,
+    /// Where it waits for no reason and a register holds its block, that register and how many targets it has.
+    pub taken: Option<Taken>,
     /// The record, and the last before it that matter.
     pub history: History,
     /// What the rule asks that the record carries, and what the bank has of its blocks, where it is a rule of a bank.
@@ -94,10 +97,12 @@ pub fn explain(
         free,
         history.place,
     )?;
+    let taken = taken_at(records, rule, limit, &further);
     Ok(Explanation {
         rule,
         limit,
         free,
+        taken,
         history,
         broken,
         origins,

@@ -13,16 +13,24 @@ use explain_origins::{Origin, Origins, named_register};
 use lf_codec::Packed;
 use lf_rules::{Event, OrgShape, Rule, Shape};
 
+/// The register that the miss at the place names.
+pub(crate) fn register_at(records: &Packed, place: usize) -> Option<u32>
+    ensures { result ≡ register_in (slice_get records.now.records place) }
+{
+    let mut room = room();
+    let item = record_at(records, Some(place), &mut room)?;
+    match named_register(&item.event) {
+        Some(named) => Some(u32::from(named)),
+        None => None,
+    }
+}
+
 /// Whether the miss at the place names the register.
 fn names(records: &Packed, place: usize, register: u32) -> bool
     ensures { result ≡ is_key register (register_in (slice_get records.now.records place)) }
 {
-    let mut room = room();
-    let Some(item) = record_at(records, Some(place), &mut room) else {
-        return false;
-    };
-    match named_register(&item.event) {
-        Some(named) => register == u32::from(named),
+    match register_at(records, place) {
+        Some(named) => register == named,
         None => false,
     }
 }

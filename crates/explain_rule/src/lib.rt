@@ -15,9 +15,11 @@ mod limit;
 mod origins;
 mod sentence;
 mod state;
+mod taken;
 
 pub use carried::{all_beyond, first_difference, is_among, masks_of, register_of, size_of};
 pub use explained::Explained;
 pub use explanation::{Breach, Explanation, explain};
 pub use limit::Limit;
 pub use sentence::sentence_of;
+pub use taken::Taken;

@@ -14,15 +14,14 @@ use Rattle.lf_verdict.specs.declared.session.breaking.Broken.TheVariants as brok
 use Rattle.lf_verdict.specs.Breaking.{first_offset, IsFaultOfPart}
 use Rattle.lf_verdict.specs.declared.answer.Fault.{Fault}
 use Rattle.lf_verdict.specs.declared.answer.Fault.TheVariants as faults
-use Rattle.lf_verdict.specs.Verdict.{IsFaultOfLogs, IsNo}
+use Rattle.lf_verdict.specs.Outcome.{IsFaultOfLogs, IsNo}
 use Rattle.lf_verdict.proofs.Traces.{records_fit}
-use Rattle.std.specs.Global.{Vec}
 use Rattle.explain_why.specs.Logs.{IsCountable}
 use Rattle.explain_why.specs.declared.packing.Packing.{Packing}
 use Rattle.explain_why.specs.Packing.{IsPacking}
-use Rattle.lf_verdict.specs.declared.answer.Verdict.{Verdict}
-use Rattle.lf_verdict.specs.declared.answer.Verdict.TheVariants.{Yes}
-use Rattle.lf_verdict.specs.Verdict.{IsDecided, IsVerdictOf}
+use Rattle.lf_verdict.specs.declared.answer.Outcome.{Outcome}
+use Rattle.lf_verdict.specs.declared.answer.Outcome.TheVariants.{Yes}
+use Rattle.lf_verdict.specs.Outcome.{IsDecidedOutcome, IsYes, IsOutcomeOf}
 use Rattle.explain_lines.specs.Marks.{besides, besides_of}
 use Rattle.explain_why.specs.declared.not_legal.NotLegal.{NotLegal}
 use Rattle.explain_why.specs.Cause.{HasBankOf, IsCause}
@@ -61,13 +60,13 @@ first_bank shape bytes (Some (broken.Part part (Some upon))) is =
 
 -- ---- a yes
 
--- A trace whose verdict is a yes has whole numbers.
-pub countable : (shape : Shape) (bytes : List ℕ) (v : Verdict) (events : ℕ) (order : Vec ℕ) → v ≡ Yes events order
-    → (IsDecided v → IsVerdictOf shape 1 bytes v) → IsCountable shape bytes
-countable shape bytes v events order is judged =
-    let yes : IsVerdictOf shape 1 bytes (Yes events order) =
-    subst (λ (w : Verdict). IsDecided w → IsVerdictOf shape 1 bytes w) is judged tt in
-    record { memory = yes.1.memory; logs = yes.1.logs; trace = yes.1.trace; whole = yes.1.parts.numbers }
+-- A trace whose outcome is a yes has whole numbers.
+pub countable : (shape : Shape) (bytes : List ℕ) (outcome : Outcome) (events : ℕ) → outcome ≡ Yes events
+    → (IsDecidedOutcome outcome → IsOutcomeOf shape bytes outcome) → IsCountable shape bytes
+countable shape bytes outcome events is judged =
+    let yes : IsYes shape bytes events =
+    subst (λ (o : Outcome). IsDecidedOutcome o → IsOutcomeOf shape bytes o) is judged tt in
+    record { memory = yes.memory; logs = yes.logs; trace = yes.trace; whole = yes.ordered.parts.numbers }
 
 -- ---- a no
 

@@ -1,11 +1,18 @@
 -- Laws of what was taken from a reader.
-use Rattle.std.proofs.Common.{◌≡◌, ℕ, ◌-◌, ◌≤◌, List, [], ◌++◌, take, drop, sym, ap, ◌∙◌, subst, arith}
+use Rattle.std.proofs.Common.{◌≡◌, ◌≢◌, ◌⊎◌, inl, inr, ℕ, ◌-◌, ◌≤◌, List, [], ◌++◌, take, drop, Some}
+use Rattle.std.proofs.Common.{sym, ap, ◌∙◌, subst, arith}
 use Rattle.std.proofs.Math.Seq.{take-add}
 use Rattle.std.proofs.lemmas.List.{append-nil}
 use Rattle.lf_rules.specs.declared.event.Record.{Record}
 use Rattle.lf_rules.specs.Fits.{Bytes}
+use Rattle.lf_codec.specs.declared.fault.CodecCause.TheVariants.{NoMemory}
+use Rattle.lf_codec.specs.declared.fault.CodecFault.{CodecFault}
 use Rattle.lf_codec.specs.declared.header.Header.{Header}
+use Rattle.lf_codec.specs.Laws.{IsSomeTrace}
+use Rattle.lf_codec.specs.Reader.{HasRead, RanOut}
+use Rattle.lf_codec.specs.Reading.{Reading}
 use Rattle.lf_codec.specs.Trace.{IsTrace}
+use Rattle.lf_codec.proofs.TraceLaws.{reading_is_exact}
 
 -- Where nothing is left, what was taken is the trace.
 pub all_taken : (bytes : List ℕ) (h : Header) (memory more : List (ℕ × Bytes)) (records rest : List Record)
@@ -19,3 +26,26 @@ all_taken bytes h memory more records rest trace e f =
 pub up_to : (bytes : List ℕ) (at end : ℕ) → at ≤ end
     → take at bytes ++ take (end - at) (drop at bytes) ≡ take end bytes
 up_to bytes at end le = sym (take-add at (end - at) bytes) ∙ ap (λ n. take n bytes) (omega (arith, le))
+
+-- ---- faults
+
+-- A reader that has failed by a fault of the format has read the bytes.
+pub unless_out : (r : Reading) (fed : List ℕ) (memory : List (ℕ × Bytes)) (records : List Record) (f : CodecFault)
+    → HasRead r fed memory records ⊎ RanOut r fed memory records → r.fault ≡ Some f → f.cause ≢ NoMemory
+    → HasRead r fed memory records
+unless_out r fed memory records f (inl read) failed other = read
+unless_out r fed memory records f (inr ran) failed other =
+    let both : Some ran.fault ≡ Some f = sym ran.failed ∙ failed in
+    let same : ran.fault ≡ f = cc in
+    absurd (other (ap (λ (g : CodecFault). g.cause) (sym same) ∙ ran.cause))
+
+-- A reader that was fed a trace is at its end.
+pub is_at_end : (bytes : List ℕ) (is : IsSomeTrace bytes) (r : Reading) (memory : List (ℕ × Bytes))
+    (records : List Record) → HasRead r bytes memory records
+    → IsTrace bytes is.header (memory ++ r.memory) (records ++ r.records)
+is_at_end bytes is r memory records has =
+    let read = (reading_is_exact bytes is.header is.memory is.records has.are_bytes).1 is.trace in
+    let blocks : is.memory ≡ memory ++ r.memory = sym read.2 ∙ ap (λ (q : Reading). q.memory) has.same in
+    let events : is.records ≡ records ++ r.records = sym read.3 ∙ ap (λ (q : Reading). q.records) has.same in
+    subst (λ (rs : List Record). IsTrace bytes is.header (memory ++ r.memory) rs) events
+    (subst (λ (m : List (ℕ × Bytes)). IsTrace bytes is.header m is.records) blocks is.trace)

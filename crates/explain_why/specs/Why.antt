@@ -11,13 +11,13 @@ use Rattle.count_usage.specs.declared.usage.Usage.{Usage}
 use Rattle.count_usage.specs.Usage.{IsUsage}
 use Rattle.count_usage.specs.Text.{usage_text}
 use Rattle.lf_rules.specs.Fits.{Bytes}
-use Rattle.lf_verdict.specs.declared.answer.Verdict.{Verdict}
-use Rattle.lf_verdict.specs.declared.answer.Verdict.TheVariants as verdicts
+use Rattle.lf_verdict.specs.declared.answer.Outcome.{Outcome}
+use Rattle.lf_verdict.specs.declared.answer.Outcome.TheVariants as outcomes
 use Rattle.lf_verdict.specs.declared.answer.Refusal.{Refusal}
 use Rattle.lf_verdict.specs.declared.answer.Refusal.TheVariants as refusals
 use Rattle.lf_verdict.specs.declared.session.breaking.Broken.{Broken}
 use Rattle.lf_verdict.specs.Legal.{IsTraceFor}
-use Rattle.lf_verdict.specs.Verdict.{IsDecided, IsVerdictOf}
+use Rattle.lf_verdict.specs.Outcome.{IsDecidedOutcome, IsOutcomeOf}
 use Rattle.explain_why.specs.declared.why.Why.{Why}
 use Rattle.explain_why.specs.declared.why.Why.TheVariants.{No, Yes, NotComplete, Format, Header}
 use Rattle.lf_verdict.specs.Incomplete.{IsIncompleteIn}
@@ -37,8 +37,8 @@ is_told_of_refusal (refusals.Format fault) = true
 is_told_of_refusal (refusals.Header field) = true
 is_told_of_refusal _ = false
 
-abbrev pub is_told : Verdict → Bool
-is_told (verdicts.Refused refusal) = is_told_of_refusal refusal
+abbrev pub is_told : Outcome → Bool
+is_told (outcomes.Refused refusal) = is_told_of_refusal refusal
 is_told _ = true
 
 -- how many event records stand before an offset of the bytes
@@ -46,17 +46,17 @@ abbrev pub records_before : List ℕ → ℕ → ℕ
 records_before bytes offset = length (reading_of (take offset bytes)).records
 
 -- A request without a reply is told of a legal trace alone.
-abbrev pub IsIncompleteIf : Shape → List ℕ → Verdict → Option Incomplete → Type 0
-IsIncompleteIf shape bytes (verdicts.Yes events order) (Some found) = IsIncompleteIn shape bytes (Some found)
-IsIncompleteIf shape bytes v (Some found) = ⊥
-IsIncompleteIf shape bytes v None = Unit {0}
+abbrev pub IsIncompleteIf : Shape → List ℕ → Outcome → Option Incomplete → Type 0
+IsIncompleteIf shape bytes (outcomes.Yes events) (Some found) = IsIncompleteIn shape bytes (Some found)
+IsIncompleteIf shape bytes o (Some found) = ⊥
+IsIncompleteIf shape bytes o None = Unit {0}
 
 -- That is what judging the bytes came to.
-pub record IsJudgement (shape : Shape) (bytes : List ℕ) (v : Verdict) (earliest : Option Broken)
+pub record IsJudgement (shape : Shape) (bytes : List ℕ) (o : Outcome) (earliest : Option Broken)
     (incomplete : Option Incomplete) : Type 0 where
-  pub verdict : IsDecided v → IsVerdictOf shape 1 bytes v
-  pub is_earliest : IsDecided v → IsEarliestIf shape bytes earliest
-  pub is_incomplete : IsIncompleteIf shape bytes v incomplete
+  pub outcome : IsDecidedOutcome o → IsOutcomeOf shape bytes o
+  pub is_earliest : IsDecidedOutcome o → IsEarliestIf shape bytes earliest
+  pub is_incomplete : IsIncompleteIf shape bytes o incomplete
 
 -- Why a legal trace is not complete, or otherwise what it uses at most.
 abbrev pub IsWhyOfLegal : Shape → List ℕ → (ℕ → ℕ → Option (List ℕ)) → ℕ → Option Incomplete → Why → Type 0
@@ -65,20 +65,20 @@ IsWhyOfLegal shape bytes time most None (Yes usage) = IsUsageOf shape bytes usag
 IsWhyOfLegal shape bytes time most _ _ = ⊥
 
 -- That is why the judgement of these bytes is what it is.
-abbrev pub IsWhy : Shape → List ℕ → (ℕ → ℕ → Option (List ℕ)) → ℕ → Verdict → Option Incomplete → Why → Type 0
-IsWhy shape bytes time most (verdicts.No fault) incomplete (No why) = IsNotLegal shape bytes time most fault why
-IsWhy shape bytes time most (verdicts.Yes events order) incomplete why =
+abbrev pub IsWhy : Shape → List ℕ → (ℕ → ℕ → Option (List ℕ)) → ℕ → Outcome → Option Incomplete → Why → Type 0
+IsWhy shape bytes time most (outcomes.No fault) incomplete (No why) = IsNotLegal shape bytes time most fault why
+IsWhy shape bytes time most (outcomes.Yes events) incomplete why =
     IsWhyOfLegal shape bytes time most incomplete why
-IsWhy shape bytes time most (verdicts.Refused (refusals.Format fault)) incomplete (Format told count) =
+IsWhy shape bytes time most (outcomes.Refused (refusals.Format fault)) incomplete (Format told count) =
     (told ≡ fault) × (count ≡ records_before bytes fault.offset)
-IsWhy shape bytes time most (verdicts.Refused (refusals.Header field)) incomplete Header = Unit {0}
+IsWhy shape bytes time most (outcomes.Refused (refusals.Header field)) incomplete Header = Unit {0}
 IsWhy shape bytes time most _ incomplete _ = ⊥
 
 -- It is there exactly where it is told.
-abbrev pub HasWhy : Shape → List ℕ → (ℕ → ℕ → Option (List ℕ)) → ℕ → Verdict → Option Incomplete → Option Why → Type 0
-HasWhy shape bytes time most v incomplete (Some why) =
-    (is_told v ≡ true) × IsWhy shape bytes time most v incomplete why
-HasWhy shape bytes time most v incomplete None = is_told v ≡ false
+abbrev pub HasWhy : Shape → List ℕ → (ℕ → ℕ → Option (List ℕ)) → ℕ → Outcome → Option Incomplete → Option Why → Type 0
+HasWhy shape bytes time most o incomplete (Some why) =
+    (is_told o ≡ true) × IsWhy shape bytes time most o incomplete why
+HasWhy shape bytes time most o incomplete None = is_told o ≡ false
 
 abbrev pub why_text : Shape → List ℕ → Why → List ℕ
 why_text shape bytes (No why) = not_legal_text why

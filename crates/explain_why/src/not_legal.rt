@@ -5,9 +5,10 @@ ghost use Rattle.std.specs.List.{AllByRecursion};
 ghost use Rattle.lf_rules.specs.Fits.{Fits};
 ghost use Rattle.lf_rules.specs.InRange.{IsShape};
 ghost use Rattle.explain_lines.specs.Marks.{told_by};
-ghost use Rattle.lf_verdict.specs.Verdict.{IsNo};
+ghost use Rattle.lf_verdict.specs.Outcome.{IsNo};
 ghost use Rattle.explain_why.specs.Cause.{HasBankOf};
-ghost use Rattle.explain_why.specs.NotLegal.{as_fault, names_place, HasBankOfFirst, IsEarliestIf, IsFirstCause, IsNotLegal};
+ghost use Rattle.explain_why.specs.NotLegal.{as_fault, names_place, HasBankOfFirst, IsEarliestIf, IsFirstCause};
+ghost use Rattle.explain_why.specs.NotLegal.{IsNotLegal};
 
 use crate::cause::{Cause, Contents, cause_of};
 use crate::why::Asked;

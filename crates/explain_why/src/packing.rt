@@ -3,6 +3,7 @@
 ghost use Rattle.std.specs.Prelude.{◌≡◌, ℕ, List, IfOk};
 ghost use Rattle.lf_rules.specs.declared.event.Record.{Record};
 ghost use Rattle.lf_rules.specs.Fits.{Bytes};
+ghost use Rattle.lf_codec.specs.Laws.{IsSomeTrace};
 ghost use Rattle.lf_codec.specs.Trace.{FitsTrace};
 ghost use Rattle.lf_verdict.specs.Breaking.{first_offset};
 ghost use Rattle.explain_why.specs.Packing.{IsPacking};
@@ -29,20 +30,21 @@ fn first_record_at(header: &Header) -> u64
     16 + u64::from(header.memory_count) * (4 + u64::from(header.block))
 }
 
-/// The memory and the records of the trace in these bytes, which have to be one. A record takes about the room of its
-/// bytes. A reader refuses a trace only where memory runs out.
+/// The memory and the records of the trace in these bytes. A record takes about the room of its bytes.
 pub fn packed_in(alloc: Global, bytes: &[u8]) -> Result<Packing, NoMemory>
+    requires { IsSomeTrace bytes.now }
     ensures { IfOk result (IsPacking bytes.now) }
 {
     let mut reader = Reader::new(alloc);
     let mut records = Packed::new(alloc);
+    // A trace has no fault, so a refusal is that memory ran out.
     let Ok(()) = reader.pack(bytes, &mut records) else {
         return Err(NoMemory);
     };
     let mut memory = Vec::new(alloc);
     take_memory(&mut reader, &mut memory)?;
     let Ok(header) = reader.finish() else {
-        return Err(NoMemory);
+        unreachable!()
     };
     Ok(Packing {
         start: first_record_at(&header),

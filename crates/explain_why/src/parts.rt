@@ -1,14 +1,14 @@
 //! What stands in the bytes of a trace.
 
-ghost use Rattle.std.specs.Prelude.{◌≡◌, ℕ, List, [], IfOk, OnOk};
+ghost use Rattle.std.specs.Prelude.{◌≡◌, ℕ, List, [], ◌++◌, IfOk, OnOk};
 ghost use Rattle.lf_rules.specs.Fits.{Bytes};
-ghost use Rattle.lf_codec.specs.Laws.{AreBytes};
+ghost use Rattle.lf_codec.specs.Laws.{AreBytes, IsSomeTrace};
 ghost use Rattle.lf_codec.specs.Reader.{HasRead};
 ghost use Rattle.lf_codec.specs.Reading.{reading_of};
 ghost use Rattle.lf_codec.specs.Trace.{IsTrace};
 ghost use Rattle.explain_why.specs.Taken.{HasTakenAll};
 
-use lf_codec::{Header, Reader};
+use lf_codec::{CodecCause, Header, Reader};
 use lf_rules::{Memory, NoMemory, Record};
 use std::alloc::Global;
 
@@ -48,8 +48,21 @@ fn take_records(reader: &mut Reader, records: &mut Vec<Record>) -> Result<(), No
     Ok(())
 }
 
-/// Reads the bytes by a reader that has read nothing, and takes what it finds. A fault of the format is told as
-/// `NoMemory`: who calls knows of none.
+/// Feeds the reader. A fault of the format is none here: what stands before it can be taken.
+fn feed(reader: &mut Reader, piece: &[u8]) -> Result<(), NoMemory>
+    ensures { (fed : List ℕ) (memory : List (ℕ × Bytes)) (records : List Record) →
+        HasRead reader.old fed memory records → OnOk result (HasRead reader.new (fed ++ piece.now) memory records) }
+{
+    match reader.feed(piece) {
+        Ok(()) => Ok(()),
+        Err(told) => match told.fault().cause {
+            CodecCause::NoMemory => Err(NoMemory),
+            _ => Ok(()),
+        },
+    }
+}
+
+/// Reads the bytes by a reader that has read nothing, and takes what it finds.
 fn read_all(alloc: Global, reader: &mut Reader, bytes: &[u8]) -> Result<Parts, NoMemory>
     requires { HasRead reader.old [] [] [] }
     ensures { IfOk result (λ parts. HasTakenAll reader.new bytes.now parts.memory.items parts.records.items) }
@@ -59,9 +72,7 @@ fn read_all(alloc: Global, reader: &mut Reader, bytes: &[u8]) -> Result<Parts, N
     let mut at = 0;
     while at < bytes.len() {
         let end = bytes.len().min(at + PIECE);
-        let Ok(()) = reader.feed(&bytes[at..end]) else {
-            return Err(NoMemory);
-        };
+        feed(reader, &bytes[at..end])?;
         take_memory(reader, &mut memory)?;
         take_records(reader, &mut records)?;
         at = end;
@@ -69,8 +80,7 @@ fn read_all(alloc: Global, reader: &mut Reader, bytes: &[u8]) -> Result<Parts, N
     Ok(Parts { memory, records })
 }
 
-/// The memory and the records that stand in the bytes, which have no fault of the format. So a reader refuses them
-/// only where memory runs out.
+/// The memory and the records that stand in the bytes, up to a fault of the format.
 pub fn parts_in(alloc: Global, bytes: &[u8]) -> Result<Parts, NoMemory>
     ensures memory { IfOk result (λ parts. parts.memory.items ≡ (reading_of bytes.now).memory) }
     ensures records { IfOk result (λ parts. parts.records.items ≡ (reading_of bytes.now).records) }
@@ -80,7 +90,7 @@ pub fn parts_in(alloc: Global, bytes: &[u8]) -> Result<Parts, NoMemory>
     read_all(alloc, &mut reader, bytes)
 }
 
-/// The records that stand in the bytes, which have no fault of the format.
+/// The records that stand in the bytes, up to a fault of the format.
 pub fn records_in(alloc: Global, bytes: &[u8]) -> Result<Vec<Record>, NoMemory>
     ensures read { IfOk result (λ records. records.items ≡ (reading_of bytes.now).records) }
     ensures are_bytes { OnOk result (AreBytes bytes.now) }
@@ -97,14 +107,15 @@ pub struct Trace {
     pub records: Vec<Record>,
 }
 
-/// The trace in these bytes, which have to be one. A reader refuses it only where memory runs out.
+/// The trace in these bytes.
 pub fn trace_in(alloc: Global, bytes: &[u8]) -> Result<Trace, NoMemory>
+    requires { IsSomeTrace bytes.now }
     ensures { IfOk result (λ trace. IsTrace bytes.now trace.header trace.memory.items trace.records.items) }
 {
     let mut reader = Reader::new(alloc);
     let Parts { memory, records } = read_all(alloc, &mut reader, bytes)?;
     let Ok(header) = reader.finish() else {
-        return Err(NoMemory);
+        unreachable!()
     };
     Ok(Trace {
         header,

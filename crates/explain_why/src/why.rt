@@ -15,7 +15,7 @@ use explain_lines::Times;
 use explain_refusal::up_to;
 use lf_codec::CodecFault;
 use lf_rules::{NoMemory, Shape};
-use lf_verdict::{Broken, Incomplete, Refusal, Verdict};
+use lf_verdict::{Broken, Incomplete, Outcome, Refusal};
 use std::alloc::Global;
 
 /// Why a verdict is what it is.
@@ -47,7 +47,7 @@ pub struct Asked<'a> {
 /// What judging the bytes of a trace came to.
 #[derive(Clone, Copy)]
 pub struct Judgement<'a> {
-    pub verdict: &'a Verdict,
+    pub outcome: &'a Outcome,
     /// What broke first, where something did.
     pub earliest: &'a Option<Broken>,
     /// The first request of a legal trace that has no reply, where one has none and complete traces are asked for.
@@ -101,27 +101,27 @@ pub fn why_of(
     asked: &Asked<'_>,
 ) -> Result<Option<Why>, NoMemory>
     requires in_range { IsShape shape.now }
-    requires judged { IsJudgement shape.now bytes.now judged.now.verdict.now judged.now.earliest.now
+    requires judged { IsJudgement shape.now bytes.now judged.now.outcome.now judged.now.earliest.now
         judged.now.incomplete }
-    ensures { IfOk result (HasWhy shape.now bytes.now (told_by asked.now.times) asked.now.most judged.now.verdict.now
+    ensures { IfOk result (HasWhy shape.now bytes.now (told_by asked.now.times) asked.now.most judged.now.outcome.now
         judged.now.incomplete) }
 {
     let Judgement {
-        verdict,
+        outcome,
         earliest,
         incomplete,
     } = *judged;
-    match verdict {
-        Verdict::No(fault) => {
+    match outcome {
+        Outcome::No(fault) => {
             let why = not_legal(alloc, shape, bytes, fault, earliest, asked)?;
             Ok(Some(Why::No(why)))
         }
-        Verdict::Yes { .. } => Ok(Some(why_of_legal(alloc, shape, bytes, incomplete, asked)?)),
-        Verdict::Refused(Refusal::Format(fault)) => Ok(Some(Why::Format {
+        Outcome::Yes { .. } => Ok(Some(why_of_legal(alloc, shape, bytes, incomplete, asked)?)),
+        Outcome::Refused(Refusal::Format(fault)) => Ok(Some(Why::Format {
             fault: *fault,
             count: records_before(alloc, bytes, fault.offset)?,
         })),
-        Verdict::Refused(Refusal::Header(_)) => Ok(Some(Why::Header)),
-        Verdict::Refused(_) => Ok(None),
+        Outcome::Refused(Refusal::Header(_)) => Ok(Some(Why::Header)),
+        Outcome::Refused(_) => Ok(None),
     }
 }

@@ -1,7 +1,8 @@
 -- A session that reads ahead of its judges.
 use Rattle.std.proofs.Common.{◌≡◌, ℕ, List, [], ◌++◌, Option, Some, None, Result, Ok, Err, sym, ap, ◌∙◌, subst}
-use Rattle.std.proofs.Common.{◌+◌, ◌-◌, ◌∷◌, true, length, get_or, take, drop, refl, append_assoc, arith}
-use Rattle.std.specs.Prelude.{◌==◌, IfOk}
+use Rattle.std.proofs.Common.{◌+◌, ◌-◌, ◌∷◌, true, false, length, get_or, take, drop, refl, append_assoc, arith}
+use Rattle.std.proofs.Common.{inl, inr, ⊎_elim}
+use Rattle.std.specs.Prelude.{◌==◌, IfOk, IfSome, IsSome}
 use Rattle.std.specs.Arc.{arc_value}
 use Rattle.std.proofs.lemmas.Bool.{eqb-true}
 use Rattle.std.proofs.lemmas.List.{append-nil, get_or-append_right, take-append-drop}
@@ -14,18 +15,19 @@ use Rattle.lf_codec.specs.Reading.{Reading}
 use Rattle.lf_codec.specs.Reader.{told, HasRead, with_records}
 use Rattle.lf_verdict.specs.declared.session.intake.Intake.{Intake}
 use Rattle.lf_verdict.specs.inner.Coming.{MayAllCome}
-use Rattle.lf_verdict.specs.inner.Ahead.{CanRead, ReadsOn, session_of, lent_records}
+use Rattle.lf_verdict.specs.inner.Ahead.{CanRead, ReadsOn, IsAhead, IsIdle, session_of, lent_records}
 use Rattle.lf_verdict.specs.inner.Shares.{MayFollow, StandsAfterNext}
 use Rattle.lf_verdict.specs.declared.stop.Stop.{Stop}
 use Rattle.lf_verdict.specs.declared.stop.Stop.TheVariants as stops
-use Rattle.lf_verdict.specs.inner.Fed.{HasTaken, HasFed, HasFedUntil}
+use Rattle.lf_verdict.specs.inner.Fed.{HasTaken, HasFed, HasFedUntil, IsRunningNow, IsAsAsked, IsPlain}
 use Rattle.lf_verdict.specs.declared.session.workers.Workers.{Workers}
 use Rattle.lf_verdict.specs.declared.session.standing.Standing.{Standing}
 use Rattle.lf_verdict.specs.declared.session.ahead.Ahead.{Ahead}
 use Rattle.lf_verdict.specs.declared.session.breaking.Watch.{Watch}
 use Rattle.lf_verdict.specs.Breaking.{first_offset}
 use Rattle.lf_verdict.specs.Standing.{IsWatch}
-use Rattle.lf_verdict.specs.inner.Taking.{running_before}
+use Rattle.lf_verdict.specs.inner.Taking.{running_before, IsSettled}
+use Rattle.lf_verdict.specs.inner.Workers.{AreWorkers}
 use Rattle.lf_verdict.proofs.Batches.{first_come}
 use Rattle.lf_verdict.proofs.Pieces.{told_fine}
 use Rattle.lf_verdict.proofs.Sessions.{may_all_come, running_more, judged_feed, stop_stays}
@@ -76,13 +78,13 @@ module _ (law : WhatIsReadFits) (s : Intake) (bytes : List ℕ) (start : Standin
   may : MayAllCome s.shape taken.0 next
   may = first_come s.shape taken.0 next (rest ++ s.reader.records)
       (subst (MayAllCome s.shape taken.0) (append_assoc next rest s.reader.records)
-      (may_all_come law s.shape bytes s.memory.items taken.0 (with_records (next ++ rest) s.reader) start taken.1.read
+      (may_all_come law s.shape bytes taken.1.taken taken.0 (with_records (next ++ rest) s.reader) start taken.1.read
       taken.1.judging))
 
   pub may_follow : MayFollow start next
   may_follow = record {
     shape = s.shape;
-    memory = flat_memory s.memory.items;
+    memory = flat_memory taken.1.taken;
     before = taken.0;
     stands = taken.1.judging.stands;
     may = may;
@@ -94,12 +96,14 @@ module _ (law : WhatIsReadFits) (s : Intake) (bytes : List ℕ) (start : Standin
     taken.0 ++ next,
     record {
       in_range = taken.1.in_range;
-      read = taken_too s.reader bytes s.memory.items taken.0 next rest taken.1.read;
+      taken = taken.1.taken;
+      kept = taken.1.kept;
+      read = taken_too s.reader bytes taken.1.taken taken.0 next rest taken.1.read;
       fine = taken.1.fine;
-      judging = running_more s.shape bytes s.memory.items taken.0 (taken.0 ++ next) start end taken.1.judging
-          (judged.stands s.shape (flat_memory s.memory.items) taken.0 taken.1.judging.stands may)
-          (subst (λ (w : Watch). IsWatch (first_offset taken.1.judging.header s.memory.items) s.shape
-          (flat_memory s.memory.items) (taken.0 ++ next) w) (sym judged.unknown) tt) judged.keeps;
+      judging = running_more s.shape bytes taken.1.taken taken.0 (taken.0 ++ next) start end taken.1.judging
+          (judged.stands s.shape (flat_memory taken.1.taken) taken.0 taken.1.judging.stands may)
+          (subst (λ (w : Watch). IsWatch (first_offset taken.1.judging.header taken.1.taken) s.shape
+          (flat_memory taken.1.taken) (taken.0 ++ next) w) (sym judged.unknown) tt) judged.keeps;
     },
   )
 
@@ -134,7 +138,7 @@ pub read_ahead : HeaderIsOfItsBytes → {G : Type 0} (a : Ahead G) (bytes piece 
 read_ahead law a bytes piece r rs taken ok fine =
     let s = session_of a in
     let lent = lent_records a.at_work in
-    let memory = a.intake.memory.items in
+    let memory = taken.1.taken in
     let has = ok bytes memory (taken.0 ++ lent) (taken_too a.intake.reader bytes memory taken.0 lent a.records.records
     taken.1.read) in (
       taken.0,
@@ -163,6 +167,77 @@ none_ahead a bytes alone none fed =
     subst (λ (w : Option Workers). HasFed (session_of (record a { at_work = w })) bytes) (sym alone)
     (subst (λ (xs : List Record). HasFed (record a.intake { reader = with_records xs a.intake.reader }) bytes)
     (sym none) fed)
+
+-- what a session was fed that neither reads ahead nor waits for workers
+pub idle_fed : {G : Type 0} (a : Ahead G) (bytes : List ℕ) → IsIdle a → HasFed (session_of a) bytes →
+    HasFed a.intake bytes
+idle_fed a bytes idle fed =
+    subst (λ (xs : List Record). HasFed (record a.intake { reader = with_records xs a.intake.reader }) bytes) idle.none
+    (subst (λ (w : Option Workers). HasFed (session_of (record a { at_work = w })) bytes) idle.alone fed)
+
+-- one that is asked what broke first does neither
+pub watched_idle : {G : Type 0} (a : Ahead G) → IsAhead a → a.intake.stop ≡ None → a.intake.asked.watched ≡ true →
+    IsIdle a
+watched_idle a ahead on watched = ⊎_elim
+    (λ (plain : IsPlain a.intake.asked). let e : true ≡ false = sym watched ∙ plain.unwatched in absurd (cc))
+    (λ idle. idle) (ahead.in_turn on)
+
+-- where neither is asked for, what was asked is done
+pub plain_as_asked : (s : Intake) → IsPlain s.asked → IsAsAsked s
+plain_as_asked s plain = record {
+  known = λ watched. let e : true ≡ false = sym watched ∙ plain.unwatched in absurd (cc);
+  counting = λ counted. let e : true ≡ false = sym counted ∙ plain.uncounted in absurd (cc);
+}
+
+-- what is busy is asked for neither
+pub plain_or_idle : {G : Type 0} (a : Ahead G) → IsAhead a → a.intake.stop ≡ None → (IsIdle a → ⊥) →
+    IsPlain a.intake.asked
+plain_or_idle a ahead on busy = ⊎_elim (λ plain. plain) (λ (idle : IsIdle a). absurd (busy idle)) (ahead.in_turn on)
+
+-- ---- how it stands
+
+-- no worker is there, and no record waits
+pub idle_ahead : {G : Type 0} (a : Ahead G) → a.at_work ≡ None → a.records.records ≡ [] → IsAsAsked a.intake →
+    (a.intake.asked.watched ≡ true → IsSettled a.intake) → IsAhead a
+idle_ahead a alone none does settled = record {
+  ahead = λ on. inr none;
+  alone = λ some. alone;
+  workers = subst (λ (w : Option Workers). IfSome w AreWorkers) (sym alone) tt;
+  in_turn = λ on. inr (record { alone = alone; none = none });
+  as_asked = λ on. does;
+  settled = settled;
+}
+
+-- it was stopped
+pub stopped_ahead : {G : Type 0} (a : Ahead G) (stop : Stop) → a.intake.stop ≡ Some stop → a.at_work ≡ None →
+    IsAhead a
+stopped_ahead a stop is alone = record {
+  ahead = λ on. absurd (none on);
+  alone = λ some. alone;
+  workers = subst (λ (w : Option Workers). IfSome w AreWorkers) (sym alone) tt;
+  in_turn = λ on. absurd (none on);
+  as_asked = λ on. absurd (none on);
+  settled = λ watched on. absurd (none on);
+}
+  where
+    none : a.intake.stop ≡ None → ⊥
+    none on = let e : Some stop ≡ None = sym is ∙ on in absurd (cc)
+
+-- records are judged together
+pub plain_ahead : {G : Type 0} (a : Ahead G) → IsPlain a.intake.asked → a.intake.stop ≡ None →
+    IsRunningNow (session_of a).judging → IfSome a.at_work AreWorkers → IsAhead a
+plain_ahead a plain on running workers = record {
+  ahead = λ _. inl running;
+  alone = λ some. absurd (none a.intake.stop on some);
+  workers = workers;
+  in_turn = λ _. inl plain;
+  as_asked = λ _. plain_as_asked a.intake plain;
+  settled = λ watched. let e : true ≡ false = sym watched ∙ plain.unwatched in absurd (cc);
+}
+  where
+    none : (stop : Option Stop) → stop ≡ None → IsSome stop → ⊥
+    none None on some = absurd (cc)
+    none (Some stop) on some = absurd (cc)
 
 -- ---- pieces that are read
 

@@ -29,7 +29,8 @@ use Rattle.lf_verdict.specs.declared.answer.Refusal.TheVariants as refusals
 use Rattle.lf_verdict.specs.Legal.{IsTraceFor}
 use Rattle.lf_verdict.specs.Laws.{YesIsLegal, NoHasNoRun, IsRunlessNo}
 use Rattle.lf_verdict.specs.inner.Gathering.{IsReadStop}
-use Rattle.lf_verdict.specs.Verdict.{Differs, IsVerdictOf, IsLegalYes, IsDecided, IsWorkerCount}
+use Rattle.lf_verdict.specs.Outcome.{Differs}
+use Rattle.lf_verdict.specs.Verdict.{IsVerdictOf, IsLegalYes, IsDecided, IsWorkerCount}
 use Rattle.lf_verdict.specs.declared.early_end.Ending.{Ending}
 use Rattle.lf_verdict.specs.declared.early_end.Ending.TheVariants as endings
 use Rattle.lf_verdict.specs.inner.Ending.{IsEnding, ending_verdict, IsLogsVerdict, IsVerdictOrWant}
@@ -79,7 +80,21 @@ pub of_logs : (shape : Shape) (bytes : List ℕ) (memory : List (ℕ × Bytes)) 
     (verdict : Verdict) → IsTraceFor shape bytes memory logs
     → IsLogsVerdict shape (flat_memory memory) logs verdict → IsVerdictOrWant shape bytes verdict
 of_logs shape bytes memory logs (Yes events order) trace is =
-    record { memory = memory; logs = logs; trace = trace; parts = is.0.parts; least = is.0.least; count = is.1 }
+    record {
+      yes = record {
+        memory = memory;
+        logs = logs;
+        trace = trace;
+        ordered = record {
+          parts = is.0.parts;
+          order = order.items;
+          is_order = is.0.least.is_order;
+          count = is.1;
+        };
+      };
+      least = is.0.least;
+      count = is.1;
+    }
 of_logs shape bytes memory logs (No fault) trace is = record {
   memory = memory;
   logs = logs;
@@ -150,7 +165,9 @@ of_ending shape memory logs endings.NoMemory is = tt
 
 pub legal_yes : YesIsLegal → (shape : Shape) (bytes : List ℕ) (verdict : Verdict) →
     IsVerdictOrWant shape bytes verdict → IsLegalYes shape bytes verdict
-legal_yes law shape bytes (Yes events order) is = (law shape bytes events order.items is, is.count)
+legal_yes law shape bytes (Yes events order) is =
+    let one = is.yes in
+    (law shape bytes order.items one.memory one.logs one.trace one.ordered.parts is.least.is_order, is.count)
 legal_yes law shape bytes _ is = tt
 
 pub runless_no : NoHasNoRun → (shape : Shape) (bytes : List ℕ) (verdict : Verdict) →
@@ -169,10 +186,6 @@ verdict_of shape workers bytes (Refused (refusals.Workers n)) one is judged = ab
 verdict_of shape workers bytes (Refused (refusals.Config fault)) one is judged = absurd is
 verdict_of shape workers bytes (Refused refusals.Memory) one is judged = absurd judged
 verdict_of shape workers bytes (Refused refusals.Thread) one is judged = absurd judged
-
-pub never_thread : (shape : Shape) (bytes : List ℕ) (verdict : Verdict) → IsVerdictOrWant shape bytes verdict →
-    verdict ≡ Refused refusals.Thread → ⊥
-never_thread shape bytes verdict is e = subst (IsVerdictOrWant shape bytes) e is
 
 -- ---- what the call promises with several workers
 

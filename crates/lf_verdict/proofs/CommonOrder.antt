@@ -14,7 +14,7 @@ use Rattle.lf_verdict.specs.declared.answer.Verdict.TheVariants.{Yes, No, Refuse
 use Rattle.lf_verdict.specs.Collected.{AreOfCollectedLogs, IsOutOfOrder, CollectedLogsAreInOrder}
 use Rattle.lf_verdict.specs.Collected.{CollectedLogsAreInOrderFor}
 use Rattle.lf_verdict.specs.Legal.{IsTraceFor}
-use Rattle.lf_verdict.specs.Verdict.{IsFaultOfLogs, IsNo}
+use Rattle.lf_verdict.specs.Outcome.{IsFaultOfLogs, IsNo}
 use Rattle.lf_verdict.proofs.Settled.{interleaves}
 use Rattle.lf_verdict.proofs.Traces.{records_fit, trace_banks}
 

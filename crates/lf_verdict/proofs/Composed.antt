@@ -4,16 +4,13 @@ use Rattle.std.specs.List.{AllByRecursion}
 use Rattle.lf_rules.specs.declared.shape.Shape.{Shape}
 use Rattle.lf_rules.specs.declared.event.Record.{Record}
 use Rattle.lf_rules.specs.Address.{FlatMemory, flat_memory}
-use Rattle.lf_rules.specs.Fits.{Bytes, Fits}
+use Rattle.lf_rules.specs.Fits.{Fits}
 use Rattle.lf_rules.specs.Laws.{RunsAnswerOnce, RunsAreFlat, RunsShare}
 use Rattle.lf_rules.specs.Numbers.{InterleavingsAreNumbered, InterleavingsFit, NumberedIsOne}
-use Rattle.lf_rules.specs.Order.{EntriesKeepNumbers, EntriesKeepAlike, IsOrder, LogsFollow, OrdersInterleave}
-use Rattle.lf_rules.specs.Ring.{skeletons_of}
+use Rattle.lf_rules.specs.Order.{EntriesKeepNumbers, EntriesKeepAlike, LogsFollow, OrdersInterleave}
 use Rattle.lf_rules.specs.Run.{RunsByParts, of_bank, Interleaves, KeepsNumbers, IsSliceRun, IsPortRun, IsRun}
 use Rattle.lf_verdict.specs.Laws.{YesIsLegal}
-use Rattle.lf_verdict.specs.Legal.{IsTraceFor, IsLegal}
 use Rattle.lf_verdict.specs.Parts.{PartsRun}
-use Rattle.lf_verdict.specs.Unordered.{OrderedYesIsLegal}
 use Rattle.lf_verdict.proofs.Traces.{trace_names, trace_fits, trace_banks}
 
 -- the laws that a yes rests on
@@ -48,10 +45,8 @@ runs laws shape memory logs rs few parts interleaves keeps fits =
       λ port lt. subst (IsPortRun shape memory) (sym (interleaves.each port)) (parts.ports port lt),
     )
 
-legal_by_order : Laws → (shape : Shape) (bytes order : List ℕ) (memory : List (ℕ × Bytes)) (logs : List (List Record)) →
-    IsTraceFor shape bytes memory logs → PartsRun shape (flat_memory memory) logs → IsOrder (skeletons_of logs) order →
-    IsLegal shape bytes order
-legal_by_order laws shape bytes order memory logs trace parts is_order =
+pub yes_is_legal : Laws → YesIsLegal
+yes_is_legal laws shape bytes order memory logs trace parts is_order =
     let taken = laws.logs logs order is_order.entries is_order.taken in
     let rs = taken.0 in
     let named = (laws.interleave logs order rs (trace_names shape bytes memory logs trace)).0 taken.1 in
@@ -72,11 +67,3 @@ legal_by_order laws shape bytes order memory logs trace parts is_order =
       once = laws.once shape (flat_memory memory) rs run;
       flat = laws.are_flat shape (flat_memory memory) rs run;
     }
-
-pub legal_by_parts : Laws → YesIsLegal
-legal_by_parts laws shape bytes events order y =
-    legal_by_order laws shape bytes order y.memory y.logs y.trace y.parts y.least.is_order
-
-pub legal_by_some : Laws → OrderedYesIsLegal
-legal_by_some laws shape bytes events y =
-    legal_by_order laws shape bytes y.ordered.order y.memory y.logs y.trace y.ordered.parts y.ordered.is_order

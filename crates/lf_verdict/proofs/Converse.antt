@@ -20,7 +20,7 @@ use Rattle.lf_verdict.specs.declared.answer.Fault.{Fault}
 use Rattle.lf_verdict.specs.declared.answer.Fault.TheVariants.{Missing, Double, Port, Bank, Cycle}
 use Rattle.lf_verdict.specs.Legal.{IsTraceFor}
 use Rattle.lf_verdict.specs.Laws.{IsRecorded, NoHasNoRun}
-use Rattle.lf_verdict.specs.Verdict.{IsFaultOfLogs}
+use Rattle.lf_verdict.specs.Outcome.{IsFaultOfLogs}
 use Rattle.lf_verdict.proofs.Traces.{trace_fits, trace_banks, trace_factor}
 
 -- the laws that a no rests on

@@ -29,8 +29,8 @@ use Rattle.lf_codec.specs.Trace.{IsTrace}
 use Rattle.lf_codec.proofs.Pieces.{has_read_on}
 use Rattle.lf_verdict.specs.declared.answer.Fault.{Fault}
 use Rattle.lf_verdict.specs.declared.answer.Fault.TheVariants.{Missing, Double, Port, Bank, Cycle}
-use Rattle.lf_verdict.specs.declared.answer.Verdict.{Verdict}
-use Rattle.lf_verdict.specs.declared.answer.Verdict.TheVariants.{Yes, No, Refused}
+use Rattle.lf_verdict.specs.declared.answer.Outcome.{Outcome}
+use Rattle.lf_verdict.specs.declared.answer.Outcome.TheVariants.{Yes, No, Refused}
 use Rattle.lf_verdict.specs.declared.answer.HeaderField.{HeaderField}
 use Rattle.lf_verdict.specs.declared.session.intake.Intake.{Intake}
 use Rattle.lf_verdict.specs.declared.session.standing.Standing.{Standing}
@@ -38,7 +38,7 @@ use Rattle.lf_verdict.specs.Legal.{Agrees, IsTraceFor}
 use Rattle.lf_verdict.specs.Parts.{HasWholeNumbers, PortRuns, BankRuns, PartsRun}
 use Rattle.lf_verdict.specs.inner.Fed.{IsRunning, HasJudged}
 use Rattle.lf_verdict.specs.inner.Coming.{logs_so_far}
-use Rattle.lf_verdict.specs.Verdict.{Differs, IsFaultOfLogs, IsVerdictOf}
+use Rattle.lf_verdict.specs.Outcome.{Differs, IsFaultOfLogs, IsOutcomeOf}
 use Rattle.lf_verdict.proofs.Counts.{no_double}
 use Rattle.lf_verdict.proofs.Sessions.{header_stays, both_bytes}
 use Rattle.lf_verdict.proofs.Settled.{bank_moved}
@@ -310,26 +310,26 @@ module _ (exact : ReadingIsExact) (law : HeaderIsOfItsBytes) (shape : Shape) (by
       (subst (λ (ls : List (List Record)). PartsRun shape (flat_memory memory) ls) at.1.2 parts) in
       no_yes shape start records at.0 at.1.0 found is here.numbers here.ports here.banks
 
-  told : (verdict : Verdict) → IsVerdictOf shape 1 (bytes ++ more) verdict →
-      IsNoYesAfter (broken.Part found upon) verdict
-  told (Yes events order) v = yes_told v.1.memory v.1.logs v.1.trace v.1.parts
-  told (No fault) v = no_told v.1.memory v.1.logs fault v.1.trace v.1.fault_of
-  told (Refused (refusals.Format format)) v = tt
-  told (Refused (refusals.Header field)) v =
-      let all = traced exact law bytes more h records rest are are_more read whole split v.1.header v.1.memory
-      v.1.records v.1.trace in
-      agrees_or_differs shape h field agrees (subst (λ (g : Header). Differs shape g field) all.same_header v.1.differs)
-  told (Refused (refusals.Workers n)) v = v.1 (omega arith, omega arith)
-  told (Refused (refusals.Config fault)) v = v.1
-  told (Refused refusals.Memory) v = v.1
-  told (Refused refusals.Thread) v = v.1
+  told : (outcome : Outcome) → IsOutcomeOf shape (bytes ++ more) outcome →
+      IsNoYesAfter (broken.Part found upon) outcome
+  told (Yes events) o = yes_told o.memory o.logs o.trace o.ordered.parts
+  told (No fault) o = no_told o.memory o.logs fault o.trace o.fault_of
+  told (Refused (refusals.Format format)) o = tt
+  told (Refused (refusals.Header field)) o =
+      let all = traced exact law bytes more h records rest are are_more read whole split o.header o.memory
+      o.records o.trace in
+      agrees_or_differs shape h field agrees (subst (λ (g : Header). Differs shape g field) all.same_header o.differs)
+  told (Refused (refusals.Workers n)) o = o
+  told (Refused (refusals.Config fault)) o = o
+  told (Refused refusals.Memory) o = o
+  told (Refused refusals.Thread) o = o
 
 pub final : ReadingIsExact → HeaderIsOfItsBytes → PartFaultsAreFinal
-final exact law shape bytes memory records fault upon are begins is more verdict are_more v =
+final exact law shape bytes memory records fault upon are begins is more outcome are_more o =
     told exact law shape bytes more begins.header records begins.rest fault upon are are_more begins.read
     begins.agrees (ap length begins.memory_is ∙ begins.whole) begins.records_are
     (subst (λ (m : List (ℕ × Bytes)). IsFaultOfPart shape (flat_memory m) records fault) (sym begins.memory_is) is)
-    verdict v
+    outcome o
 
 -- ---- another hierarchy
 
@@ -364,22 +364,22 @@ module _ (exact : ReadingIsExact) (law : HeaderIsOfItsBytes) (shape : Shape) (by
   none_for memory logs t = agrees_or_differs shape h field (subst (Agrees shape)
       (same_header t.header memory t.records t.trace) t.agrees) differs
 
-  told_other : (verdict : Verdict) → IsVerdictOf shape 1 (bytes ++ more) verdict →
-      IsNoYesAfter (broken.Header field) verdict
-  told_other (Yes events order) v = none_for v.1.memory v.1.logs v.1.trace
-  told_other (No fault) v = none_for v.1.memory v.1.logs v.1.trace
-  told_other (Refused (refusals.Format format)) v = tt
-  told_other (Refused (refusals.Header told)) v =
+  told_other : (outcome : Outcome) → IsOutcomeOf shape (bytes ++ more) outcome →
+      IsNoYesAfter (broken.Header field) outcome
+  told_other (Yes events) o = none_for o.memory o.logs o.trace
+  told_other (No fault) o = none_for o.memory o.logs o.trace
+  told_other (Refused (refusals.Format format)) o = tt
+  told_other (Refused (refusals.Header told)) o =
       one_field shape h field told differs (subst (λ (g : Header). Differs shape g told)
-      (same_header v.1.header v.1.memory v.1.records v.1.trace) v.1.differs)
-  told_other (Refused (refusals.Workers n)) v = v.1 (omega arith, omega arith)
-  told_other (Refused (refusals.Config fault)) v = v.1
-  told_other (Refused refusals.Memory) v = v.1
-  told_other (Refused refusals.Thread) v = v.1
+      (same_header o.header o.memory o.records o.trace) o.differs)
+  told_other (Refused (refusals.Workers n)) o = o
+  told_other (Refused (refusals.Config fault)) o = o
+  told_other (Refused refusals.Memory) o = o
+  told_other (Refused refusals.Thread) o = o
 
 pub other_final : ReadingIsExact → HeaderIsOfItsBytes → OtherHeadersAreFinal
-other_final exact law shape bytes h field are read differs more verdict are_more v =
-    told_other exact law shape bytes more h field are are_more read differs verdict v
+other_final exact law shape bytes h field are read differs more outcome are_more o =
+    told_other exact law shape bytes more h field are are_more read differs outcome o
 
 -- ---- what a session was fed
 
@@ -388,16 +388,16 @@ few_more xs [] le = append-nil xs
 few_more xs (y ∷ ys) le = absurd (omega (arith, length-append xs (y ∷ ys)))
 
 -- the bytes begin a trace with the records that the session took
-pub begins_fed : WhatIsReadFits → (s : Intake) (bytes : List ℕ) (records : List Record) (running : Standing) →
-    HasJudged s bytes records
-    → IsRunning s.shape s.asked.ordered bytes s.memory.items records running →
-    Begins s.shape bytes s.memory.items records
+pub begins_fed : WhatIsReadFits → (s : Intake) (bytes : List ℕ) (records : List Record) (running : Standing)
+    (judged : HasJudged s bytes records)
+    → IsRunning s.shape s.asked.ordered bytes judged.taken records running →
+    Begins s.shape bytes judged.taken records
 begins_fed fits s bytes records running judged run =
-    let memory_is : (reading_of bytes).memory ≡ s.memory.items ++ s.reader.memory =
+    let memory_is : (reading_of bytes).memory ≡ judged.taken ++ s.reader.memory =
     ap (λ (q : Reading). q.memory) judged.read.same in
     let few = (fits bytes run.header judged.read.are_bytes run.read).few in
-    let none : s.memory.items ++ s.reader.memory ≡ s.memory.items =
-    few_more s.memory.items s.reader.memory (omega (arith, ap length memory_is, few, run.whole)) in
+    let none : judged.taken ++ s.reader.memory ≡ judged.taken =
+    few_more judged.taken s.reader.memory (omega (arith, ap length memory_is, few, run.whole)) in
     record {
       header = run.header;
       read = run.read;
@@ -410,7 +410,7 @@ begins_fed fits s bytes records running judged run =
 
 pub begins_fed-header : (fits : WhatIsReadFits) (s : Intake) (bytes : List ℕ) (records : List Record)
     (running : Standing) (judged : HasJudged s bytes records)
-    (run : IsRunning s.shape s.asked.ordered bytes s.memory.items records running) →
+    (run : IsRunning s.shape s.asked.ordered bytes judged.taken records running) →
     (begins_fed fits s bytes records running judged run).header ≡ run.header
 unfolding begins_fed
 begins_fed-header fits s bytes records running judged run = refl

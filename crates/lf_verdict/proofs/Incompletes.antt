@@ -7,24 +7,17 @@ use Rattle.lf_rules.specs.declared.event.Record.{Record}
 use Rattle.lf_rules.specs.declared.outcome.Outcome.{Outcome}
 use Rattle.lf_rules.specs.declared.outcome.Outcome.TheVariants as outcomes
 use Rattle.lf_rules.specs.Address.{FlatMemory}
-use Rattle.lf_rules.specs.Fits.{Bytes}
 use Rattle.lf_rules.specs.Order.{log_at}
 use Rattle.lf_rules.specs.Outcomes.{first_local}
 use Rattle.lf_rules.specs.Run.{of_log, IsPortRun}
 use Rattle.lf_rules.specs.Table.{OfPort}
-use Rattle.lf_logs.specs.declared.incomplete.Incomplete.{Incomplete}
 use Rattle.lf_logs.specs.Incomplete.{IsLowestWaiting, AreComplete}
 use Rattle.lf_logs.specs.Tags.{PortView, PortStandsAfter}
-use Rattle.lf_verdict.specs.declared.answer.Verdict.{Verdict}
-use Rattle.lf_verdict.specs.declared.answer.Verdict.TheVariants.{Yes, No, Refused}
 use Rattle.lf_verdict.specs.declared.session.standing.port_judge.PortJudge.{PortJudge}
 use Rattle.lf_verdict.specs.declared.session.standing.Standing.{Standing}
-use Rattle.lf_verdict.specs.Incomplete.{IsIncompleteFor}
-use Rattle.lf_verdict.specs.Legal.{IsTraceFor}
 use Rattle.lf_verdict.specs.Parts.{PartsRun}
 use Rattle.lf_verdict.specs.Standing.{IsPortAt, StandsAfterAll}
 use Rattle.lf_verdict.specs.inner.Coming.{logs_so_far}
-use Rattle.lf_verdict.specs.inner.Ending.{IsLogsIncomplete}
 use Rattle.lf_verdict.proofs.Breaks.{no_break}
 use Rattle.lf_verdict.proofs.Traces.{log_of_logs}
 
@@ -64,12 +57,3 @@ module _ (shape : Shape) (memory : FlatMemory) (records : List Record) (s : Stan
       subst (λ (q : ℕ). IsLowestWaiting (log_at (logs_so_far shape records) q) None) (sym this) here)
       (λ (other : p ≡ port → ⊥). below p (omega (arith, other, lt)))
       (cases_eq p port)
-
--- What is first in the logs of a trace is first in its bytes.
-pub first_of_logs : (shape : Shape) (bytes : List ℕ) (memory : List (ℕ × Bytes)) (logs : List (List Record))
-    (verdict : Verdict) (found : Option Incomplete) → IsTraceFor shape bytes memory logs
-    → IsLogsIncomplete shape logs verdict found → IsIncompleteFor shape bytes verdict found
-first_of_logs shape bytes memory logs (Yes events order) found trace is =
-    record { memory = memory; logs = logs; trace = trace; first = is }
-first_of_logs shape bytes memory logs (No fault) found trace is = is
-first_of_logs shape bytes memory logs (Refused refusal) found trace is = is

@@ -19,7 +19,7 @@ use Rattle.lf_verdict.specs.Standing.{IsWatch, StandsAfterAll}
 use Rattle.lf_verdict.specs.inner.Coming.{MayCome}
 use Rattle.lf_verdict.specs.inner.Noting.{EndsInRange}
 use Rattle.lf_verdict.specs.inner.Taking.{RunsOn}
-use Rattle.lf_verdict.specs.inner.Fed.{IsRunning, IsJudging, HasFed, HasFedUntil}
+use Rattle.lf_verdict.specs.inner.Fed.{IsRunning, IsJudging, IsKept, HasFed, HasFedUntil}
 use Rattle.lf_verdict.proofs.Feeding.{rest_of, rest_is, more_bytes}
 use Rattle.lf_verdict.proofs.Lengths.{ends_in_range}
 use Rattle.lf_verdict.proofs.Sessions.{may_come, given_one, running_on, running_more, going}
@@ -93,13 +93,15 @@ pub ran_on : (s : Intake) (running after : Standing) (reader : Reading) (bytes f
     → HasFed s fed → HasFed (record s { reader = reader; judging = Running after }) (fed ++ bytes)
 ran_on s running after reader bytes fed nothing is runs fault has =
     let m = going s fed nothing has in
-    let run = subst (λ (j : Judging). IsJudging s.shape s.asked.ordered fed s.memory.items m.0 j) is m.1.judging in
-    let now = runs s.shape s.asked.ordered fed s.memory.items m.0 m.1.read run in
+    let run = subst (λ (j : Judging). IsJudging s.shape s.asked.ordered fed m.1.taken m.0 j) is m.1.judging in
+    let now = runs s.shape s.asked.ordered fed m.1.taken m.0 m.1.read run in
     let new : Intake = record s { reader = reader; judging = Running after } in
     subst (λ (stop : Option Stop). HasFedUntil new (fed ++ bytes) stop) (sym nothing) (
       now.0,
       record {
         in_range = m.1.in_range;
+        taken = m.1.taken;
+        kept = subst (λ (j : Judging). IsKept j m.1.taken s.memory.items) is m.1.kept;
         read = now.1.0;
         fine = fault ∙ m.1.fine;
         judging = now.1.1;

@@ -1,6 +1,5 @@
 -- How the logs are mixed in the bytes does not matter.
-use Rattle.std.proofs.Common.{◌≡◌, ℕ, ◌+◌, ◌<◌, List, [], ◌∷◌, map, refl, sym, ◌∙◌, ap, subst}
-use Rattle.std.specs.Prelude.{slice_index}
+use Rattle.std.proofs.Common.{◌≡◌, ℕ, ◌+◌, List, [], ◌∷◌, map, refl, sym, ◌∙◌, ap, subst}
 use Rattle.std.specs.List.{range_with_len}
 use Rattle.lf_rules.specs.declared.shape.Shape.{Shape}
 use Rattle.lf_rules.specs.declared.event.Record.{Record}
@@ -9,12 +8,12 @@ use Rattle.lf_rules.specs.Run.{of_log}
 use Rattle.lf_codec.specs.declared.header.Header.{Header}
 use Rattle.lf_codec.specs.Laws.{BytesAreOfOneTrace, FaultlessBytesAreTraces}
 use Rattle.lf_logs.specs.Lists.{logs_of}
-use Rattle.lf_verdict.specs.declared.answer.Verdict.{Verdict}
-use Rattle.lf_verdict.specs.declared.answer.Verdict.TheVariants.{Yes, No, Refused}
+use Rattle.lf_verdict.specs.declared.answer.Outcome.TheVariants.{Yes, No, Refused}
+use Rattle.lf_verdict.specs.declared.answer.Verdict.TheVariants as verdicts
 use Rattle.lf_verdict.specs.declared.answer.Refusal.TheVariants as refusals
 use Rattle.lf_verdict.specs.Legal.{Agrees, IsTraceFor}
-use Rattle.lf_verdict.specs.Laws.{AreMixtures, MixturesAreAlike}
-use Rattle.lf_verdict.specs.Verdict.{Differs, IsTraceVerdict}
+use Rattle.lf_verdict.specs.Laws.{AreMixtures, MixturesHaveOneOutcome, MixturesAreAlike}
+use Rattle.lf_verdict.specs.Outcome.{Differs, IsYes}
 
 same_logs : (rs others : List Record) (logs : List ℕ) → ((log : ℕ) → of_log log rs ≡ of_log log others) →
     map (λ log. of_log log rs) logs ≡ map (λ log. of_log log others) logs
@@ -39,19 +38,18 @@ moved one_trace shape bytes other mixed memory logs t =
           (range_with_len 0 count) mixed.same_logs;
     })
 
-alike : BytesAreOfOneTrace → FaultlessBytesAreTraces → (shape : Shape) (bytes other : List ℕ) (verdict : Verdict) →
-    ((i : ℕ) → slice_index bytes i < 256)
-    → AreMixtures bytes other → IsTraceVerdict shape bytes verdict → IsTraceVerdict shape other verdict
-alike one_trace faultless shape bytes other (Yes events order) fit mixed is =
-    record {
-      memory = is.memory;
-      logs = is.logs;
-      trace = moved one_trace shape bytes other mixed is.memory is.logs
-          is.trace;
-      parts = is.parts;
-      least = is.least;
-      count = is.count;
-    }
+abbrev moved_yes : BytesAreOfOneTrace → (shape : Shape) (bytes other : List ℕ) → AreMixtures bytes other →
+    (events : ℕ) → IsYes shape bytes events → IsYes shape other events
+moved_yes one_trace shape bytes other mixed events is = record {
+  memory = is.memory;
+  logs = is.logs;
+  trace = moved one_trace shape bytes other mixed is.memory is.logs is.trace;
+  ordered = is.ordered;
+}
+
+pub alike : BytesAreOfOneTrace → FaultlessBytesAreTraces → MixturesHaveOneOutcome
+alike one_trace faultless shape bytes other (Yes events) fit mixed is =
+    moved_yes one_trace shape bytes other mixed events is
 alike one_trace faultless shape bytes other (No fault) fit mixed is =
     record {
       memory = is.memory;
@@ -82,16 +80,25 @@ alike one_trace faultless shape bytes other (Refused (refusals.Header field)) fi
 alike one_trace faultless shape bytes other (Refused _) fit mixed is = absurd is
 
 pub mixtures_are_alike : BytesAreOfOneTrace → FaultlessBytesAreTraces → MixturesAreAlike
-mixtures_are_alike one_trace faultless shape workers bytes other (Yes events order) fit mixed is =
-    (is.0, alike one_trace faultless shape bytes other (Yes events order) fit mixed is.1)
-mixtures_are_alike one_trace faultless shape workers bytes other (No fault) fit mixed is =
+mixtures_are_alike one_trace faultless shape workers bytes other (verdicts.Yes events order) fit mixed is = (
+  is.0,
+  record {
+    yes = moved_yes one_trace shape bytes other mixed events is.1.yes;
+    least = is.1.least;
+    count = is.1.count;
+  },
+)
+mixtures_are_alike one_trace faultless shape workers bytes other (verdicts.No fault) fit mixed is =
     (is.0, alike one_trace faultless shape bytes other (No fault) fit mixed is.1)
-mixtures_are_alike one_trace faultless shape workers bytes other (Refused (refusals.Workers n)) fit mixed is = is
-mixtures_are_alike one_trace faultless shape workers bytes other (Refused (refusals.Config fault)) fit mixed is =
+mixtures_are_alike one_trace faultless shape workers bytes other (verdicts.Refused (refusals.Workers n)) fit mixed is =
+    is
+mixtures_are_alike one_trace faultless shape workers bytes other (verdicts.Refused (refusals.Config fault)) fit mixed
+    is = absurd is.1
+mixtures_are_alike one_trace faultless shape workers bytes other (verdicts.Refused (refusals.Format fault)) fit mixed
+    is = (is.0, alike one_trace faultless shape bytes other (Refused (refusals.Format fault)) fit mixed is.1)
+mixtures_are_alike one_trace faultless shape workers bytes other (verdicts.Refused (refusals.Header field)) fit mixed
+    is = (is.0, alike one_trace faultless shape bytes other (Refused (refusals.Header field)) fit mixed is.1)
+mixtures_are_alike one_trace faultless shape workers bytes other (verdicts.Refused refusals.Memory) fit mixed is =
     absurd is.1
-mixtures_are_alike one_trace faultless shape workers bytes other (Refused (refusals.Format fault)) fit mixed is =
-    (is.0, alike one_trace faultless shape bytes other (Refused (refusals.Format fault)) fit mixed is.1)
-mixtures_are_alike one_trace faultless shape workers bytes other (Refused (refusals.Header field)) fit mixed is =
-    (is.0, alike one_trace faultless shape bytes other (Refused (refusals.Header field)) fit mixed is.1)
-mixtures_are_alike one_trace faultless shape workers bytes other (Refused refusals.Memory) fit mixed is = absurd is.1
-mixtures_are_alike one_trace faultless shape workers bytes other (Refused refusals.Thread) fit mixed is = absurd is.1
+mixtures_are_alike one_trace faultless shape workers bytes other (verdicts.Refused refusals.Thread) fit mixed is =
+    absurd is.1

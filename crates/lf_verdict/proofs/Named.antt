@@ -19,7 +19,7 @@ use Rattle.lf_verdict.specs.declared.session.breaking.Broken.TheVariants as brok
 use Rattle.lf_verdict.specs.Breaking.{BankBreaks, IsFaultOfPart}
 use Rattle.lf_verdict.specs.Named.{IsNamedBefore, IsNamedFault, HasBegun, OneIsNamed}
 use Rattle.lf_verdict.specs.Session.{IsOfAnotherHeader}
-use Rattle.lf_verdict.specs.Verdict.{Differs}
+use Rattle.lf_verdict.specs.Outcome.{Differs}
 use Rattle.lf_verdict.specs.inner.Noting.{IsPortWhole, IsOfPort, IsOfLowestBank}
 use Rattle.lf_verdict.proofs.Breaks.{breaks_more, one_break, begins_with}
 use Rattle.lf_verdict.proofs.Finals.{one_field, agrees_or_differs}

@@ -2,6 +2,7 @@
 use Rattle.std.proofs.Common.{◌≡◌, ℕ, ◌+◌, ◌<◌, ◌≤◌, List, length, Some, refl, sym, ◌∙◌, ap, subst, arith, ◌⊎◌, inl}
 use Rattle.std.proofs.Common.{inr}
 use Rattle.std.specs.Prelude.{slice_index}
+use Rattle.std.specs.List.{sum_by}
 use Rattle.std.proofs.lemmas.Bool.{cases_lt}
 use Rattle.lf_rules.specs.declared.shape.Shape.{Shape}
 use Rattle.lf_rules.specs.declared.event.Record.{Record}
@@ -10,7 +11,7 @@ use Rattle.lf_rules.specs.declared.outcome.Outcome.TheVariants as outcomes
 use Rattle.lf_rules.specs.Address.{FlatMemory, flat_memory}
 use Rattle.lf_rules.specs.Fits.{Bytes}
 use Rattle.lf_rules.specs.Numbers.{bank_numbers, NumberedIsOne, IsMissing, IsDouble}
-use Rattle.lf_rules.specs.Order.{log_at, IsLeastOrder, OrdersInterleave, LogsFollow, EntriesKeepAlike}
+use Rattle.lf_rules.specs.Order.{log_at, IsOrder, IsLeastOrder, OrdersInterleave, LogsFollow, EntriesKeepAlike}
 use Rattle.lf_rules.specs.Order.{EntriesKeepNumbers}
 use Rattle.lf_rules.specs.Outcomes.{OutcomesAreOne, first_local}
 use Rattle.lf_rules.specs.declared.ring.Knot.{Knot}
@@ -28,17 +29,19 @@ use Rattle.lf_verdict.specs.declared.answer.Fault.TheVariants.{Missing, Double, 
 use Rattle.lf_verdict.specs.declared.answer.HeaderField.{HeaderField}
 use Rattle.lf_verdict.specs.declared.answer.HeaderField.TheVariants as fields
 use Rattle.lf_verdict.specs.Legal.{Agrees, IsTraceFor}
-use Rattle.lf_verdict.specs.Parts.{HasWholeNumbers, PortRuns, BankRuns, PartsRun, IsFirstNumber, IsPortFault}
+use Rattle.lf_verdict.specs.Parts.{HasWholeNumbers, PortRuns, BankRuns, IsFirstNumber, IsPortFault}
 use Rattle.lf_verdict.specs.Parts.{IsBankFault}
+use Rattle.lf_verdict.specs.declared.answer.Outcome.{Outcome}
+use Rattle.lf_verdict.specs.declared.answer.Outcome.TheVariants.{Yes, No, Refused}
 use Rattle.lf_verdict.specs.declared.answer.Verdict.{Verdict}
-use Rattle.lf_verdict.specs.declared.answer.Verdict.TheVariants.{Yes, No, Refused}
+use Rattle.lf_verdict.specs.declared.answer.Verdict.TheVariants as verdicts
 use Rattle.lf_verdict.specs.declared.answer.Refusal.TheVariants as refusals
-use Rattle.lf_verdict.specs.Laws.{SameVerdict, VerdictsAreOne, WorkersAreAlike}
-use Rattle.lf_verdict.specs.Verdict.{Differs, IsFaultOfLogs, IsNo, IsYes, IsOfAnother, IsTraceVerdict, IsVerdictOf}
-use Rattle.lf_verdict.specs.Verdict.{IsWorkerCount}
+use Rattle.lf_verdict.specs.Laws.{OneOutcome, SameVerdict, VerdictsAreOne, VerdictsTellOutcomes, WorkersAreAlike}
+use Rattle.lf_verdict.specs.Outcome.{Differs, IsFaultOfLogs, IsNo, HasOrder, IsYes, IsOfAnother, IsOutcomeOf}
+use Rattle.lf_verdict.specs.Verdict.{IsWorkerCount, IsLeastYes, IsTraceVerdict, IsVerdictOf}
 use Rattle.lf_verdict.proofs.Traces.{trace_names, trace_fits}
 use Rattle.lf_verdict.specs.inner.Jobs.{LogsFit}
-use Rattle.lf_verdict.proofs.Skeletons.{banks_whole, all_whole}
+use Rattle.lf_verdict.proofs.Skeletons.{banks_whole, all_whole, order_len}
 use Rattle.lf_join.specs.Laws.{LeastOrdersAreOne, StuckRingsAreOne}
 use Rattle.lf_verdict.proofs.Counts.{no_gap, no_double}
 
@@ -200,20 +203,20 @@ module _ (laws : Laws) (shape : Shape) (memory : FlatMemory) (logs : List (List 
 
   -- a ring admits no order
   ring_or_order : NameTheirLogs logs → (ring : List Knot) → IsRing (skeletons_of logs) ring → (order : List ℕ) →
-      IsLeastOrder (skeletons_of logs) order → ⊥
-  ring_or_order named ring is order least =
-      let taken = laws.follow logs order least.is_order.entries least.is_order.taken in
+      IsOrder (skeletons_of logs) order → ⊥
+  ring_or_order named ring is order is_order =
+      let taken = laws.follow logs order is_order.entries is_order.taken in
       let interleaves = ((laws.interleave logs order taken.0 named).0 taken.1).0 in
       laws.rings logs ring is taken.0 interleaves ((laws.keep taken.0).1
-      (subst EntriesKeepNumbers (sym taken.2) least.is_order.kept))
+      (subst EntriesKeepNumbers (sym taken.2) is_order.kept))
 
-  no_or_yes : NameTheirLogs logs → (fault : Fault) (order : List ℕ) → IsFaultOfLogs shape memory logs fault →
-      PartsRun shape memory logs → IsLeastOrder (skeletons_of logs) order → ⊥
-  no_or_yes named (Missing bank k) order a parts least = gap_or_whole bank k a.0 (inl a.1) parts.numbers
-  no_or_yes named (Double bank k) order a parts least = gap_or_whole bank k a.0 (inr a.1) parts.numbers
-  no_or_yes named (Port port at rule) order a parts least = port_or_runs port at rule a parts.ports
-  no_or_yes named (Bank bank number rule) order a parts least = bank_or_runs bank number rule a parts.banks
-  no_or_yes named (Cycle ring) order a parts least = ring_or_order named ring.items a.waits order least
+  no_or_yes : NameTheirLogs logs → (fault : Fault) (events : ℕ) → IsFaultOfLogs shape memory logs fault →
+      HasOrder shape memory logs events → ⊥
+  no_or_yes named (Missing bank k) events a has = gap_or_whole bank k a.0 (inl a.1) has.parts.numbers
+  no_or_yes named (Double bank k) events a has = gap_or_whole bank k a.0 (inr a.1) has.parts.numbers
+  no_or_yes named (Port port at rule) events a has = port_or_runs port at rule a has.parts.ports
+  no_or_yes named (Bank bank number rule) events a has = bank_or_runs bank number rule a has.parts.banks
+  no_or_yes named (Cycle ring) events a has = ring_or_order named ring.items a.waits has.order has.is_order
 
 -- ---- the same header, the same trace
 
@@ -278,73 +281,106 @@ module _ (laws : Laws) (shape : Shape) (bytes : List ℕ) (fit : (i : ℕ) → s
   same_no a b x y = one_fault laws shape (flat_memory y.memory) y.logs
       (trace_fits shape bytes y.memory y.logs y.trace) a b (moved_fault a x y.memory y.logs y.trace) y.fault_of
 
-  yes_or_no : (fault : Fault) (events : ℕ) (order : List ℕ) → IsNo shape bytes fault →
-      IsYes shape bytes events order → ⊥
-  yes_or_no fault events order n y =
+  yes_or_no : (fault : Fault) (events : ℕ) → IsNo shape bytes fault → IsYes shape bytes events → ⊥
+  yes_or_no fault events n y =
       no_or_yes laws shape (flat_memory y.memory) y.logs (trace_fits shape bytes y.memory y.logs y.trace)
-      (trace_names shape bytes y.memory y.logs y.trace) fault order
-      (moved_fault fault n y.memory y.logs y.trace) y.parts y.least
+      (trace_names shape bytes y.memory y.logs y.trace) fault events
+      (moved_fault fault n y.memory y.logs y.trace) y.ordered
 
-  same_yes : (events events' : ℕ) (order order' : List ℕ) → IsYes shape bytes events order →
-      IsYes shape bytes events' order' → (events ≡ events') × (order ≡ order')
-  same_yes events events' order order' a b =
+  -- each order of the logs has as many places as they have records
+  same_count : (events events' : ℕ) → IsYes shape bytes events → IsYes shape bytes events' → events ≡ events'
+  same_count events events' a b =
       let same = same_logs a.memory b.memory a.logs b.logs a.trace b.trace in
+      let one = a.ordered.is_order in
+      let other = b.ordered.is_order in
+      a.ordered.count ∙ order_len (skeletons_of a.logs) a.ordered.order one.entries one.taken
+      ∙ ap (λ (ls : List (List Record)). sum_by length (skeletons_of ls)) same.1
+      ∙ sym (order_len (skeletons_of b.logs) b.ordered.order other.entries other.taken) ∙ sym b.ordered.count
+
+  one_outcome : (a b : Outcome) → IsOutcomeOf shape bytes a → IsOutcomeOf shape bytes b → a ≡ b
+  one_outcome (Yes events) (Yes events') a b = ap Yes (same_count events events' a b)
+  one_outcome (Yes events) (No fault) a b = absurd (yes_or_no fault events b a)
+  one_outcome (Yes events) (Refused (refusals.Format fault)) a b =
+      absurd (fault_or_trace fault a.trace.header a.memory a.trace.records b a.trace.trace)
+  one_outcome (Yes events) (Refused (refusals.Header field)) a b =
+      absurd (trace_or_other field a.memory a.logs b a.trace)
+  one_outcome (Yes events) (Refused _) a b = absurd b
+  one_outcome (No fault) (Yes events) a b = absurd (yes_or_no fault events a b)
+  one_outcome (No fault) (No fault') a b = ap No (same_no fault fault' a b)
+  one_outcome (No fault) (Refused (refusals.Format fault')) a b =
+      absurd (fault_or_trace fault' a.trace.header a.memory a.trace.records b a.trace.trace)
+  one_outcome (No fault) (Refused (refusals.Header field)) a b = absurd (trace_or_other field a.memory a.logs b a.trace)
+  one_outcome (No fault) (Refused _) a b = absurd b
+  one_outcome (Refused (refusals.Format fault)) (Yes events) a b =
+      absurd (fault_or_trace fault b.trace.header b.memory b.trace.records a b.trace.trace)
+  one_outcome (Refused (refusals.Format fault)) (No fault') a b =
+      absurd (fault_or_trace fault b.trace.header b.memory b.trace.records a b.trace.trace)
+  one_outcome (Refused (refusals.Format fault)) (Refused (refusals.Format fault')) a b =
+      let e : Some fault ≡ Some fault' = sym a ∙ b in cc
+  one_outcome (Refused (refusals.Format fault)) (Refused (refusals.Header field)) a b =
+      absurd (fault_or_trace fault b.header b.memory b.records a b.trace)
+  one_outcome (Refused (refusals.Format fault)) (Refused _) a b = absurd b
+  one_outcome (Refused (refusals.Header field)) (Yes events) a b =
+      absurd (trace_or_other field b.memory b.logs a b.trace)
+  one_outcome (Refused (refusals.Header field)) (No fault) a b = absurd (trace_or_other field b.memory b.logs a b.trace)
+  one_outcome (Refused (refusals.Header field)) (Refused (refusals.Format fault)) a b =
+      absurd (fault_or_trace fault a.header a.memory a.records b a.trace)
+  one_outcome (Refused (refusals.Header field)) (Refused (refusals.Header field')) a b =
+      ap (λ (f : HeaderField). Refused (refusals.Header f)) (same_other field field' a b)
+  one_outcome (Refused (refusals.Header field)) (Refused _) a b = absurd b
+  one_outcome (Refused _) _ a b = absurd a
+
+  same_order : (events events' : ℕ) (order order' : List ℕ) → IsLeastYes shape bytes events order →
+      IsLeastYes shape bytes events' order' → order ≡ order'
+  same_order events events' order order' a b =
+      let same = same_logs a.yes.memory b.yes.memory a.yes.logs b.yes.logs a.yes.trace b.yes.trace in
       let least = subst (λ (ls : List (List Record)). IsLeastOrder (skeletons_of ls) order) same.1 a.least in
-      let orders = laws.one_order (skeletons_of b.logs) order order' least b.least in
-      (a.count ∙ ap length orders ∙ sym b.count, orders)
+      laws.one_order (skeletons_of b.yes.logs) order order' least b.least
 
   one_verdict : (a b : Verdict) → IsTraceVerdict shape bytes a → IsTraceVerdict shape bytes b → SameVerdict a b
-  one_verdict (Yes events order) (Yes events' order') a b = same_yes events events' order.items order'.items a b
-  one_verdict (Yes events order) (No fault) a b = yes_or_no fault events order.items b a
-  one_verdict (Yes events order) (Refused (refusals.Format fault)) a b =
-      fault_or_trace fault a.trace.header a.memory a.trace.records b a.trace.trace
-  one_verdict (Yes events order) (Refused (refusals.Header field)) a b = trace_or_other field a.memory a.logs b a.trace
-  one_verdict (Yes events order) (Refused _) a b = absurd b
-  one_verdict (No fault) (Yes events order) a b = yes_or_no fault events order.items a b
-  one_verdict (No fault) (No fault') a b = same_no fault fault' a b
-  one_verdict (No fault) (Refused (refusals.Format fault')) a b =
-      fault_or_trace fault' a.trace.header a.memory a.trace.records b a.trace.trace
-  one_verdict (No fault) (Refused (refusals.Header field)) a b = trace_or_other field a.memory a.logs b a.trace
-  one_verdict (No fault) (Refused _) a b = absurd b
-  one_verdict (Refused (refusals.Format fault)) (Yes events order) a b =
-      fault_or_trace fault b.trace.header b.memory b.trace.records a b.trace.trace
-  one_verdict (Refused (refusals.Format fault)) (No fault') a b =
-      fault_or_trace fault b.trace.header b.memory b.trace.records a b.trace.trace
-  one_verdict (Refused (refusals.Format fault)) (Refused (refusals.Format fault')) a b =
-      let e : Some fault ≡ Some fault' = sym a ∙ b in cc
-  one_verdict (Refused (refusals.Format fault)) (Refused (refusals.Header field)) a b =
-      absurd (fault_or_trace fault b.header b.memory b.records a b.trace)
-  one_verdict (Refused (refusals.Format fault)) (Refused _) a b = absurd b
-  one_verdict (Refused (refusals.Header field)) (Yes events order) a b = trace_or_other field b.memory b.logs a b.trace
-  one_verdict (Refused (refusals.Header field)) (No fault) a b = trace_or_other field b.memory b.logs a b.trace
-  one_verdict (Refused (refusals.Header field)) (Refused (refusals.Format fault)) a b =
-      absurd (fault_or_trace fault a.header a.memory a.records b a.trace)
-  one_verdict (Refused (refusals.Header field)) (Refused (refusals.Header field')) a b =
-      ap (λ (f : HeaderField). refusals.Header f) (same_other field field' a b)
-  one_verdict (Refused (refusals.Header field)) (Refused _) a b = absurd b
-  one_verdict (Refused _) _ a b = absurd a
+  one_verdict (verdicts.Yes events order) (verdicts.Yes events' order') a b =
+      (same_count events events' a.yes b.yes, same_order events events' order.items order'.items a b)
+  one_verdict (verdicts.Yes events order) (verdicts.No fault) a b =
+      let e : Yes events ≡ No fault = one_outcome (Yes events) (No fault) a.yes b in absurd (cc)
+  one_verdict (verdicts.Yes events order) (verdicts.Refused refusal) a b =
+      let e : Yes events ≡ Refused refusal = one_outcome (Yes events) (Refused refusal) a.yes b in absurd (cc)
+  one_verdict (verdicts.No fault) (verdicts.Yes events order) a b =
+      let e : No fault ≡ Yes events = one_outcome (No fault) (Yes events) a b.yes in absurd (cc)
+  one_verdict (verdicts.No fault) (verdicts.No fault') a b =
+      let e : No fault ≡ No fault' = one_outcome (No fault) (No fault') a b in cc
+  one_verdict (verdicts.No fault) (verdicts.Refused refusal) a b =
+      let e : No fault ≡ Refused refusal = one_outcome (No fault) (Refused refusal) a b in absurd (cc)
+  one_verdict (verdicts.Refused refusal) (verdicts.Yes events order) a b =
+      let e : Refused refusal ≡ Yes events = one_outcome (Refused refusal) (Yes events) a b.yes in absurd (cc)
+  one_verdict (verdicts.Refused refusal) (verdicts.No fault) a b =
+      let e : Refused refusal ≡ No fault = one_outcome (Refused refusal) (No fault) a b in absurd (cc)
+  one_verdict (verdicts.Refused refusal) (verdicts.Refused refusal') a b =
+      let e : Refused refusal ≡ Refused refusal' = one_outcome (Refused refusal) (Refused refusal') a b in cc
+
+pub outcomes_are_one : Laws → OneOutcome
+outcomes_are_one laws shape bytes a b fit x y = one_outcome laws shape bytes fit a b x y
 
 pub verdicts_are_one : Laws → VerdictsAreOne
 verdicts_are_one laws shape workers bytes a b fit x y = go a b x y
   where
     split : (v : Verdict) → IsVerdictOf shape workers bytes v →
-        ((v ≡ Refused (refusals.Workers workers)) × ¬ IsWorkerCount workers)
+        ((v ≡ verdicts.Refused (refusals.Workers workers)) × ¬ IsWorkerCount workers)
         ⊎ (IsWorkerCount workers × IsTraceVerdict shape bytes v)
-    split (Yes events order) is = inr is
-    split (No fault) is = inr is
-    split (Refused (refusals.Workers n)) is = inl (ap (λ m. Refused (refusals.Workers m)) is.0, is.1)
-    split (Refused (refusals.Config fault)) is = inr is
-    split (Refused (refusals.Format fault)) is = inr is
-    split (Refused (refusals.Header field)) is = inr is
-    split (Refused refusals.Memory) is = inr is
-    split (Refused refusals.Thread) is = inr is
+    split (verdicts.Yes events order) is = inr is
+    split (verdicts.No fault) is = inr is
+    split (verdicts.Refused (refusals.Workers n)) is = inl (ap (λ m. verdicts.Refused (refusals.Workers m)) is.0, is.1)
+    split (verdicts.Refused (refusals.Config fault)) is = inr is
+    split (verdicts.Refused (refusals.Format fault)) is = inr is
+    split (verdicts.Refused (refusals.Header field)) is = inr is
+    split (verdicts.Refused refusals.Memory) is = inr is
+    split (verdicts.Refused refusals.Thread) is = inr is
 
-    both : (a b : Verdict) → ((a ≡ Refused (refusals.Workers workers)) × ¬ IsWorkerCount workers)
+    both : (a b : Verdict) → ((a ≡ verdicts.Refused (refusals.Workers workers)) × ¬ IsWorkerCount workers)
         ⊎ (IsWorkerCount workers × IsTraceVerdict shape bytes a)
-        → ((b ≡ Refused (refusals.Workers workers)) × ¬ IsWorkerCount workers)
+        → ((b ≡ verdicts.Refused (refusals.Workers workers)) × ¬ IsWorkerCount workers)
         ⊎ (IsWorkerCount workers × IsTraceVerdict shape bytes b) → SameVerdict a b
     both a b (inl m) (inl n) = subst (λ v. SameVerdict v b) (sym m.0)
-        (subst (λ v. SameVerdict (Refused (refusals.Workers workers)) v) (sym n.0) refl)
+        (subst (λ v. SameVerdict (verdicts.Refused (refusals.Workers workers)) v) (sym n.0) refl)
     both a b (inl m) (inr n) = absurd (m.1 n.0)
     both a b (inr m) (inl n) = absurd (n.1 m.0)
     both a b (inr m) (inr n) = one_verdict laws shape bytes fit a b m.1 n.1
@@ -355,14 +391,25 @@ verdicts_are_one laws shape workers bytes a b fit x y = go a b x y
 -- the verdict with a number of workers is that with any other
 pub any_workers : (shape : Shape) (workers other : ℕ) (bytes : List ℕ) (v : Verdict) → IsWorkerCount workers →
     IsWorkerCount other → IsVerdictOf shape other bytes v → IsVerdictOf shape workers bytes v
-any_workers shape workers other bytes (Yes events order) may may' is = (may, is.1)
-any_workers shape workers other bytes (No fault) may may' is = (may, is.1)
-any_workers shape workers other bytes (Refused (refusals.Workers n)) may may' is = absurd (is.1 may')
-any_workers shape workers other bytes (Refused (refusals.Config fault)) may may' is = (may, is.1)
-any_workers shape workers other bytes (Refused (refusals.Format fault)) may may' is = (may, is.1)
-any_workers shape workers other bytes (Refused (refusals.Header field)) may may' is = (may, is.1)
-any_workers shape workers other bytes (Refused refusals.Memory) may may' is = (may, is.1)
-any_workers shape workers other bytes (Refused refusals.Thread) may may' is = (may, is.1)
+any_workers shape workers other bytes (verdicts.Yes events order) may may' is = (may, is.1)
+any_workers shape workers other bytes (verdicts.No fault) may may' is = (may, is.1)
+any_workers shape workers other bytes (verdicts.Refused (refusals.Workers n)) may may' is = absurd (is.1 may')
+any_workers shape workers other bytes (verdicts.Refused (refusals.Config fault)) may may' is = (may, is.1)
+any_workers shape workers other bytes (verdicts.Refused (refusals.Format fault)) may may' is = (may, is.1)
+any_workers shape workers other bytes (verdicts.Refused (refusals.Header field)) may may' is = (may, is.1)
+any_workers shape workers other bytes (verdicts.Refused refusals.Memory) may may' is = (may, is.1)
+any_workers shape workers other bytes (verdicts.Refused refusals.Thread) may may' is = (may, is.1)
+
+-- with any number of workers it tells the outcome
+pub verdicts_tell : VerdictsTellOutcomes
+verdicts_tell shape workers bytes (verdicts.Yes events order) may is = is.1.yes
+verdicts_tell shape workers bytes (verdicts.No fault) may is = is.1
+verdicts_tell shape workers bytes (verdicts.Refused (refusals.Workers n)) may is = absurd (is.1 may)
+verdicts_tell shape workers bytes (verdicts.Refused (refusals.Config fault)) may is = is.1
+verdicts_tell shape workers bytes (verdicts.Refused (refusals.Format fault)) may is = is.1
+verdicts_tell shape workers bytes (verdicts.Refused (refusals.Header field)) may is = is.1
+verdicts_tell shape workers bytes (verdicts.Refused refusals.Memory) may is = is.1
+verdicts_tell shape workers bytes (verdicts.Refused refusals.Thread) may is = is.1
 
 pub workers_are_alike : VerdictsAreOne → WorkersAreAlike
 workers_are_alike one shape workers other bytes a b fit may may' x y =

@@ -25,20 +25,20 @@ use Rattle.lf_verdict.proofs.Answered.{limit_is_small}
 use Rattle.lf_codec.specs.Reading.{Reading, reading_of, fault_so_far, header_now, header_of}
 use Rattle.lf_codec.specs.Reader.{HasRead, RanOut, WantsMemory, told, fault_in, with_record}
 use Rattle.lf_codec.specs.Trace.{IsTrace, FitsIn}
-use Rattle.lf_verdict.specs.declared.answer.Verdict.TheVariants.{Refused}
+use Rattle.lf_verdict.specs.declared.answer.Outcome.TheVariants.{Refused}
 use Rattle.lf_verdict.specs.declared.answer.HeaderField.{HeaderField}
 use Rattle.lf_verdict.specs.declared.session.intake.Intake.{Intake}
 use Rattle.lf_verdict.specs.declared.stop.Stop.{Stop}
 use Rattle.lf_verdict.specs.declared.stop.Stop.TheVariants as stops
 use Rattle.lf_verdict.specs.declared.session.standing.Standing.{Standing}
 use Rattle.lf_verdict.specs.Legal.{Agrees, IsTraceFor}
-use Rattle.lf_verdict.specs.inner.Ending.{IsVerdictOrWant}
+use Rattle.lf_verdict.specs.inner.Judged.{IsOutcomeOrWant}
 use Rattle.lf_verdict.specs.inner.Gathering.{IsFaultOrWant, IsStopOf}
 use Rattle.lf_verdict.specs.Breaking.{first_offset}
 use Rattle.lf_verdict.specs.Standing.{IsWatch, StandsAfterAll}
 use Rattle.lf_verdict.specs.inner.Coming.{MayCome, MayAllCome, IsShort, logs_so_far}
 use Rattle.lf_verdict.specs.Session.{IsOfAnotherHeader}
-use Rattle.lf_verdict.specs.inner.Fed.{IsRunning, IsJudging, HasJudged, HasFedUntil, HasTaken, HasFed}
+use Rattle.lf_verdict.specs.inner.Fed.{IsRunning, IsJudging, IsKept, HasJudged, HasFedUntil, HasTaken, HasFed}
 use Rattle.lf_verdict.specs.Session.{refusal_of, stop_told, IsRefusalSoFar}
 use Rattle.lf_verdict.specs.inner.Taking.{IsLacking}
 use Rattle.lf_verdict.specs.declared.answer.Refusal.{Refusal}
@@ -47,7 +47,7 @@ use Rattle.std.specs.Prelude.{IsSome}
 use Rattle.lf_verdict.specs.declared.session.intake.Judging.{Judging}
 use Rattle.lf_verdict.specs.declared.session.intake.Judging.TheVariants.{Waiting, Running, Another}
 use Rattle.lf_rules.specs.InRange.{IsShape}
-use Rattle.lf_verdict.specs.Verdict.{Differs, IsOfAnother}
+use Rattle.lf_verdict.specs.Outcome.{Differs, IsOfAnother}
 
 -- ---- the next record may come
 
@@ -148,7 +148,7 @@ may_all_come law shape bytes memory records r running read run =
 -- ---- what a session answers
 
 pub told_stop : (shape : Shape) (bytes : List ℕ) (fault : CodecFault) (stop : Stop) → IsFaultOrWant bytes fault →
-    IsStopOf fault stop → IsVerdictOrWant shape bytes (Refused (refusal_of stop))
+    IsStopOf fault stop → IsOutcomeOrWant shape bytes (Refused (refusal_of stop))
 told_stop shape bytes fault (stops.Format told) either is = reading_stop bytes fault (stops.Format told) either is
 told_stop shape bytes fault stops.Memory either is = tt
 
@@ -217,6 +217,15 @@ pub waiting_any : (shape : Shape) (ordered : Bool) (bytes : List ℕ) (a b : Lis
 waiting_any shape ordered bytes a b records judging e h =
     subst (λ (j : Judging). IsJudging shape ordered bytes b records j) (sym e)
     (subst (λ (j : Judging). IsJudging shape ordered bytes a records j) e h)
+
+-- ... and what was taken is kept
+pub waiting_kept : (judging : Judging) (taken kept : List (ℕ × Bytes)) → judging ≡ Waiting →
+    IsKept judging taken kept → taken ≡ kept
+waiting_kept judging taken kept e is = subst (λ (j : Judging). IsKept j taken kept) e is
+
+pub kept_waiting : (judging : Judging) (taken kept : List (ℕ × Bytes)) → judging ≡ Waiting → taken ≡ kept →
+    IsKept judging taken kept
+kept_waiting judging taken kept e is = subst (λ (j : Judging). IsKept j taken kept) (sym e) is
 
 -- what a session that nothing stopped has taken
 pub going : (s : Intake) (bytes : List ℕ) → s.stop ≡ None → HasFed s bytes → HasTaken s bytes
@@ -361,22 +370,24 @@ running_on law shape bytes piece memory records running h = record {
   keeping = h.keeping;
 }
 
-pub judged_feed : HeaderIsOfItsBytes → (s : Intake) (bytes piece : List ℕ) (records : List Record) (new : Reading) →
-    HasJudged s bytes records
-    → HasRead new (bytes ++ piece) s.memory.items records → new.fault ≡ None
+pub judged_feed : HeaderIsOfItsBytes → (s : Intake) (bytes piece : List ℕ) (records : List Record) (new : Reading)
+    (was : HasJudged s bytes records)
+    → HasRead new (bytes ++ piece) was.taken records → new.fault ≡ None
     → HasJudged (record s { reader = new }) (bytes ++ piece) records
 judged_feed law s bytes piece records new was read fine = record {
   in_range = was.in_range;
+  taken = was.taken;
+  kept = was.kept;
   read = read;
   fine =
       fine;
   judging = go s.judging was.judging;
 }
   where
-    go : (j : Judging) → IsJudging s.shape s.asked.ordered bytes s.memory.items records j →
-        IsJudging s.shape s.asked.ordered (bytes ++ piece) s.memory.items records j
+    go : (j : Judging) → IsJudging s.shape s.asked.ordered bytes was.taken records j →
+        IsJudging s.shape s.asked.ordered (bytes ++ piece) was.taken records j
     go Waiting h = h
-    go (Running running) h = running_on law s.shape bytes piece s.memory.items records running h
+    go (Running running) h = running_on law s.shape bytes piece was.taken records running h
     go (Another field) h = record {
       header = h.header;
       read = header_stays law bytes piece h.header h.read;

@@ -18,10 +18,10 @@ use Rattle.lf_verdict.specs.Legal.{Agrees, IsTraceFor}
 use Rattle.lf_verdict.specs.Session.{IsOfAnotherHeader}
 use Rattle.lf_verdict.specs.declared.answer.Fault.{Fault}
 use Rattle.lf_verdict.specs.declared.answer.Fault.TheVariants.{Missing, Double, Port, Bank}
-use Rattle.lf_verdict.specs.declared.answer.Verdict.{Verdict}
-use Rattle.lf_verdict.specs.declared.answer.Verdict.TheVariants.{No, Refused}
+use Rattle.lf_verdict.specs.declared.answer.Outcome.{Outcome}
+use Rattle.lf_verdict.specs.declared.answer.Outcome.TheVariants.{No, Refused}
 use Rattle.lf_verdict.specs.declared.answer.Refusal.TheVariants as refusals
-use Rattle.lf_verdict.specs.Verdict.{Differs, IsVerdictOf}
+use Rattle.lf_verdict.specs.Outcome.{Differs, IsOutcomeOf}
 
 -- The fault that is told of the whole is the one that was found, or one that is named before it.
 abbrev pub IsNoLater : PartFault → Fault → Type 0
@@ -38,16 +38,16 @@ IsNoLater (parts.Bank bank number rule) (Bank bank' number' rule') =
 IsNoLater _ _ = ⊥
 
 -- Not a yes: a fault of a part, or one named before it, or the same field of the header, or the bytes are no trace.
-abbrev pub IsNoYesAfter : Broken → Verdict → Type 0
+abbrev pub IsNoYesAfter : Broken → Outcome → Type 0
 IsNoYesAfter (broken.Header field) (Refused (refusals.Header told)) = told ≡ field
 IsNoYesAfter (broken.Part fault upon) (No told) = IsNoLater fault told
 IsNoYesAfter found (Refused (refusals.Format format)) = Unit {0}
 IsNoYesAfter _ _ = ⊥
 
--- What broke is final for these bytes: whatever bytes follow, the verdict is no yes.
+-- What broke is final for these bytes: whatever bytes follow, the outcome is no yes.
 abbrev pub IsFinal : Shape → List ℕ → Broken → Type 0
-IsFinal shape bytes found = (more : List ℕ) (verdict : Verdict) → AreBytes more →
-    IsVerdictOf shape 1 (bytes ++ more) verdict → IsNoYesAfter found verdict
+IsFinal shape bytes found = (more : List ℕ) (outcome : Outcome) → AreBytes more →
+    IsOutcomeOf shape (bytes ++ more) outcome → IsNoYesAfter found outcome
 
 -- ---- the laws
 

@@ -12,7 +12,7 @@ use Rattle.lf_verdict.specs.declared.answer.Refusal.{Refusal}
 use Rattle.lf_verdict.specs.declared.answer.Refusal.TheVariants as refusals
 use Rattle.lf_verdict.specs.Configured.{IsConfigFault}
 use Rattle.lf_verdict.specs.Legal.{Agrees}
-use Rattle.lf_verdict.specs.Verdict.{Differs}
+use Rattle.lf_verdict.specs.Outcome.{Differs}
 
 -- The header is of another hierarchy.
 pub record IsOfAnotherHeader (shape : Shape) (bytes : List ℕ) (field : HeaderField) : Type 0 where

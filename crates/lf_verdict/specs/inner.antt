@@ -7,6 +7,7 @@ pub mod Noting
 pub mod Taking
 pub mod Turns
 pub mod Ending
+pub mod Judged
 pub mod Jobs
 pub mod Gathering
 pub mod Shares

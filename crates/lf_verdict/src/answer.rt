@@ -5,6 +5,7 @@ ghost use Rattle.lf_verdict.specs.declared.answer.Refusal.TheVariants as refusal
 ghost use Rattle.lf_verdict.specs.Configured.{config_refusal};
 ghost use Rattle.lf_verdict.specs.Session.{refusal_of};
 ghost use Rattle.lf_verdict.specs.inner.Ending.{ending_verdict};
+ghost use Rattle.lf_verdict.specs.inner.Judged.{ending_outcome};
 
 use crate::early_end::Ending;
 use crate::stop::Stop;
@@ -12,12 +13,21 @@ use lf_codec::CodecFault;
 use lf_config::ConfigFault;
 use lf_rules::{NoMemory, Ring, Rule};
 
-/// What is said of a trace.
+/// What is said of a trace, with the order of its events after a yes.
 #[derive(Debug, Drop, PartialEq)]
 pub enum Verdict {
     /// The trace is legal, and has so many events. `order` names at each place the log whose next event comes, and is
-    /// the least such list in the order of words. It is empty where no order was asked for.
+    /// the least such list in the order of words.
     Yes { events: u32, order: Vec<u8> },
+    No(Fault),
+    Refused(Refusal),
+}
+
+/// What is said of a trace: its verdict without an order.
+#[derive(Debug, Drop, PartialEq)]
+pub enum Outcome {
+    /// The trace is legal, and has so many events.
+    Yes { events: u32 },
     No(Fault),
     Refused(Refusal),
 }
@@ -29,6 +39,17 @@ impl From<Ending> for Verdict {
         match ending {
             Ending::Fault(fault) => Verdict::No(fault),
             Ending::NoMemory => Verdict::Refused(Refusal::Memory),
+        }
+    }
+}
+
+impl From<Ending> for Outcome {
+    ghost from_gives = { λ ending outcome. outcome ≡ ending_outcome ending };
+
+    fn from(ending: Ending) -> Outcome {
+        match ending {
+            Ending::Fault(fault) => Outcome::No(fault),
+            Ending::NoMemory => Outcome::Refused(Refusal::Memory),
         }
     }
 }

@@ -5,7 +5,7 @@ ghost use Rattle.lf_rules.specs.Fits.{Bytes};
 ghost use Rattle.lf_codec.specs.Trace.{FitsMemory};
 ghost use Rattle.lf_verdict.specs.Breaking.{first_offset};
 ghost use Rattle.lf_verdict.specs.Legal.{Agrees};
-ghost use Rattle.lf_verdict.specs.Verdict.{Differs};
+ghost use Rattle.lf_verdict.specs.Outcome.{Differs};
 
 use crate::answer::HeaderField;
 use lf_codec::Header;

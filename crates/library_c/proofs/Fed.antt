@@ -6,11 +6,11 @@ use Rattle.lf_codec.specs.declared.fault.Told.TheVariants.{Fault, Failed}
 use Rattle.lf_codec.specs.Reader.{fault_in}
 use Rattle.lf_codec.specs.Reading.{fault_so_far}
 use Rattle.lf_verdict.specs.declared.answer.Refusal.{Refusal}
-use Rattle.lf_verdict.specs.declared.answer.Verdict.TheVariants.{Refused}
+use Rattle.lf_verdict.specs.declared.answer.Outcome.TheVariants.{Refused}
 use Rattle.lf_verdict.specs.declared.stop.Stop.{Stop}
 use Rattle.lf_verdict.specs.Seen.{Seen}
 use Rattle.lf_verdict.specs.Session.{IsRefusalSoFar, refusal_of, stop_told}
-use Rattle.run_engine.specs.Line.{verdict_text}
+use Rattle.run_engine.specs.Line.{outcome_text}
 use Rattle.library_c.specs.declared.answer.Answer.{Answer}
 use Rattle.library_c.specs.Answers.{IsSilent, IsLine, IsFedMore, IsFedTold, IsStopTold, feed_status}
 
@@ -28,8 +28,8 @@ was_stopped None (Some stop) told is stays =
 was_stopped (Some stop) after told is stays =
     let same : told ≡ Failed (refusal_of stop) = cc in (stop, stays refl, sym (ap fault_in same))
 
-module _ (piece : List ℕ) (s s' : Seen) (shape : s'.shape ≡ s.shape) (fed : s'.fed ≡ s.fed ++ piece)
-    (stays : IsSome s.stop → s'.stop ≡ s.stop) where
+module _ (piece : List ℕ) (s s' : Seen) (shape : s'.shape ≡ s.shape) (asked : s'.asked ≡ s.asked)
+    (fed : s'.fed ≡ s.fed ++ piece) (stays : IsSome s.stop → s'.stop ≡ s.stop) where
   abbrev HasReason : Option Stop → Type 0
   HasReason stop = IfSome stop (λ stop. IsRefusalSoFar s'.fed (refusal_of stop))
 
@@ -38,6 +38,7 @@ module _ (piece : List ℕ) (s s' : Seen) (shape : s'.shape ≡ s.shape) (fed : 
       let none = went_on s.stop s'.stop is in
       record {
         shape = shape;
+        asked = asked;
         fed = fed;
         status_is = sym (ap feed_status none);
         fine = λ _. fine;
@@ -52,6 +53,7 @@ module _ (piece : List ℕ) (s s' : Seen) (shape : s'.shape ≡ s.shape) (fed : 
         let stop = was_stopped s.stop s'.stop told is stays in
         record {
           shape = shape;
+          asked = asked;
           fed = fed;
           status_is = sym (ap feed_status stop.1);
           fine = λ bad. absurd (omega (arith, bad));
@@ -60,13 +62,14 @@ module _ (piece : List ℕ) (s s' : Seen) (shape : s'.shape ≡ s.shape) (fed : 
         }
 
     pub told_why : (refusal : Refusal) → refusal ≡ fault_in told → (answer : Answer) (line line' : List ℕ)
-        → IsLine 2 (verdict_text (Refused refusal)) answer line line' → IsFedTold piece s s' answer line line'
+        → IsLine 2 (outcome_text (Refused refusal)) answer line line' → IsFedTold piece s s' answer line line'
     told_why refusal same answer line line' tells =
         let stop = was_stopped s.stop s'.stop told is stays in
         record {
           fed = subst (IsFedMore piece s s') (sym tells.status_is) fed_badly;
           told = subst (λ (o : Option Stop). IsStopTold o answer line line') (sym stop.1)
-              (subst (λ (r : Refusal). IsLine 2 (verdict_text (Refused r)) answer line line') (same ∙ sym stop.2) tells);
+              (subst (λ (r : Refusal). IsLine 2 (outcome_text (Refused r)) answer line line') (same ∙ sym stop.2)
+              tells);
         }
 
   pub told_nothing : Ok tt ≡ stop_told s.stop s'.stop → fault_so_far s'.fed ≡ None → (answer : Answer)

@@ -1,24 +1,25 @@
 -- What the calls answer.
 use Rattle.std.specs.Prelude.{◌≡◌, ◌⊎◌, ℕ, List, [], ◌++◌, length, take, drop, min, codes, Option, Some, None, Ok}
-use Rattle.std.specs.Prelude.{IfSome, IsSome, IsUtf8}
+use Rattle.std.specs.Prelude.{true, IfSome, IsSome, IsUtf8}
 use Rattle.lf_config.specs.Configuration.{configuration_of}
 use Rattle.lf_config.specs.declared.fault.ConfigFault.TheVariants.{NotToml}
 use Rattle.lf_codec.specs.Reading.{fault_so_far}
 use Rattle.lf_verdict.specs.declared.stop.Stop.{Stop}
 use Rattle.lf_verdict.specs.declared.session.breaking.Broken.{Broken}
 use Rattle.lf_verdict.specs.declared.session.breaking.Broken.TheVariants as broken
-use Rattle.lf_verdict.specs.declared.answer.Verdict.{Verdict}
-use Rattle.lf_verdict.specs.declared.answer.Verdict.TheVariants.{Yes, No, Refused}
+use Rattle.lf_verdict.specs.declared.answer.Outcome.{Outcome}
+use Rattle.lf_verdict.specs.declared.answer.Outcome.TheVariants.{Yes, No, Refused}
 use Rattle.lf_verdict.specs.declared.answer.Refusal.{Refusal}
 use Rattle.lf_verdict.specs.declared.answer.Refusal.TheVariants.{Config, Thread}
+use Rattle.lf_verdict.specs.Conclusion.{IsLegalOutcome}
 use Rattle.lf_verdict.specs.Final.{IsFinal, IsEarliest}
-use Rattle.lf_verdict.specs.Laws.{IsRunlessNo}
+use Rattle.lf_verdict.specs.Laws.{IsRunlessOutcome}
 use Rattle.lf_verdict.specs.Named.{NoneBrokeSoFar}
+use Rattle.lf_verdict.specs.Outcome.{IsDecidedOutcome, IsOutcomeOf}
 use Rattle.lf_verdict.specs.Seen.{Seen}
 use Rattle.lf_verdict.specs.Session.{IsConfigRefusal, IsRefusalSoFar, refusal_of}
 use Rattle.lf_verdict.specs.Text.{broken_text}
-use Rattle.lf_verdict.specs.Verdict.{IsDecided, IsVerdictOf, IsLegalYes}
-use Rattle.run_engine.specs.Line.{verdict_text}
+use Rattle.run_engine.specs.Line.{outcome_text}
 use Rattle.library_c.specs.declared.answer.Answer.{Answer}
 
 -- ---- the line, as it stood before and as it stands now
@@ -47,11 +48,13 @@ pub record IsLine (status : ℕ) (text : List ℕ) (answer : Answer) (line line'
 
 -- ---- opening, of a board that has this session or none
 
--- The session is for the hierarchy that the text says, and was fed nothing. Nothing stopped it.
+-- The session is for the hierarchy that the text says, and was fed nothing. Nothing stopped it. It is asked what breaks
+-- first.
 pub record IsOpened (text : List ℕ) (session : Seen) : Type 0 where
   pub configured : configuration_of text ≡ Ok session.shape
   pub fed : session.fed ≡ []
   pub going : session.stop ≡ None
+  pub watched : session.asked.watched ≡ true
 
 -- The bytes are no text, or no configuration, or memory ran out.
 abbrev pub IsNoConfiguration : List ℕ → Refusal → Type 0
@@ -63,7 +66,7 @@ abbrev pub IsOpening : List ℕ → Option Seen → Option Seen → Answer → L
 IsOpening text (Some s) now answer line line' = (now ≡ Some s) × IsSilent 3 answer line line'
 IsOpening text None (Some s) answer line line' = IsOpened text s × IsSilent 0 answer line line'
 IsOpening text None None answer line line' = (refusal : Refusal) × IsNoConfiguration text refusal ×
-    IsLine 2 (verdict_text (Refused refusal)) answer line line'
+    IsLine 2 (outcome_text (Refused refusal)) answer line line'
 
 -- ---- feeding
 
@@ -76,6 +79,7 @@ feed_status (Some stop) = 2
 -- that stands in the bytes so far, or out of memory, and stays.
 pub record IsFedMore (piece : List ℕ) (s s' : Seen) (status : ℕ) : Type 0 where
   pub shape : s'.shape ≡ s.shape
+  pub asked : s'.asked ≡ s.asked
   pub fed : s'.fed ≡ s.fed ++ piece
   pub status_is : status ≡ feed_status s'.stop
   pub fine : status ≡ 0 → fault_so_far s'.fed ≡ None
@@ -90,7 +94,7 @@ IsFeeding piece (Some s) (Some s') status = IsFedMore piece s s' status
 -- The line says why the session is refused, where something stopped it.
 abbrev pub IsStopTold : Option Stop → Answer → List ℕ → List ℕ → Type 0
 IsStopTold None answer line line' = IsSilent 0 answer line line'
-IsStopTold (Some stop) answer line line' = IsLine 2 (verdict_text (Refused (refusal_of stop))) answer line line'
+IsStopTold (Some stop) answer line line' = IsLine 2 (outcome_text (Refused (refusal_of stop))) answer line line'
 
 pub record IsFedTold (piece : List ℕ) (s s' : Seen) (answer : Answer) (line line' : List ℕ) : Type 0 where
   pub fed : IsFedMore piece s s' answer.status
@@ -134,20 +138,20 @@ IsAsking (Some s) answer line line' =
 -- ---- the verdict
 
 -- 0 for a yes, 1 for a no, 2 for a refusal
-abbrev pub status_of : Verdict → ℕ
-status_of (Yes events order) = 0
+abbrev pub status_of : Outcome → ℕ
+status_of (Yes events) = 0
 status_of (No fault) = 1
 status_of (Refused refusal) = 2
 
--- The verdict of the bytes that the session was fed, unless memory ran out.
-pub record IsJudged (s : Seen) (v : Verdict) : Type 0 where
-  pub verdict : IsDecided v → IsVerdictOf s.shape 1 s.fed v
-  pub legal : IsLegalYes s.shape s.fed v
-  pub runless : IsRunlessNo s.shape s.fed v
-  pub stopped : IfSome s.stop (λ stop. v ≡ Refused (refusal_of stop))
-  pub no_threads : ¬ (v ≡ Refused Thread)
+-- The verdict of the bytes that the session was fed, unless memory ran out. A yes is legal by some order.
+pub record IsJudged (s : Seen) (outcome : Outcome) : Type 0 where
+  pub verdict : IsDecidedOutcome outcome → IsOutcomeOf s.shape s.fed outcome
+  pub legal : IsLegalOutcome s.shape s.fed outcome
+  pub runless : IsRunlessOutcome s.shape s.fed outcome
+  pub stopped : IfSome s.stop (λ stop. outcome ≡ Refused (refusal_of stop))
+  pub no_threads : ¬ (outcome ≡ Refused Thread)
 
 abbrev pub IsFinishing : Option Seen → Answer → List ℕ → List ℕ → Type 0
 IsFinishing None answer line line' = IsSilent 3 answer line line'
-IsFinishing (Some s) answer line line' = (v : Verdict) × IsJudged s v ×
-    IsLine (status_of v) (verdict_text v) answer line line'
+IsFinishing (Some s) answer line line' = (outcome : Outcome) × IsJudged s outcome ×
+    IsLine (status_of outcome) (outcome_text outcome) answer line line'

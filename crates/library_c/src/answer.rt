@@ -3,7 +3,7 @@
 ghost use Rattle.std.specs.Prelude.{◌≡◌};
 ghost use Rattle.library_c.specs.Answers.{status_of, broken_status};
 
-use lf_verdict::{Broken, Verdict};
+use lf_verdict::{Broken, Outcome};
 
 /// It did what it is for: a yes, where a verdict was asked for.
 pub(crate) const FINE: u32 = 0;
@@ -33,13 +33,13 @@ impl Answer {
 }
 
 /// The status of the verdict, as that of the program.
-pub(crate) fn status_of(verdict: &Verdict) -> u32
-    ensures { result ≡ status_of verdict.now }
+pub(crate) fn status_of(outcome: &Outcome) -> u32
+    ensures { result ≡ status_of outcome.now }
 {
-    match verdict {
-        Verdict::Yes { .. } => FINE,
-        Verdict::No(_) => BROKEN,
-        Verdict::Refused(_) => REFUSED,
+    match outcome {
+        Outcome::Yes { .. } => FINE,
+        Outcome::No(_) => BROKEN,
+        Outcome::Refused(_) => REFUSED,
     }
 }
 

@@ -1,6 +1,7 @@
 //! A board, which C keeps.
 
-ghost use Rattle.std.specs.Prelude.{◌≡◌, Some, None, IsSome, is_some};
+ghost use Rattle.std.specs.Prelude.{◌≡◌, true, Some, None, IsSome, IfSome, is_some};
+ghost use Rattle.std.proofs.Props.{props};
 
 use crate::held::Held;
 use lf_verdict::Session;
@@ -14,11 +15,14 @@ pub struct Board {
     pub(crate) live: bool,
     pub(crate) held: Held,
     ghost agrees: { live ≡ is_some held.session },
+    /// It is asked what broke first.
+    ghost watched: { IfSome held.session (λ s. s.asked.watched ≡ true) } by { Prim.hlevel props },
 }
 
 impl Board {
     /// A board with the session.
     pub(crate) fn with(session: Box<Session>) -> Board
+        requires { session.value.asked.watched ≡ true }
         ensures { result.held.session ≡ Some session.value }
     {
         Board {
@@ -31,6 +35,7 @@ impl Board {
     pub(crate) fn take(&mut self, alloc: Global) -> Box<Session>
         requires { IsSome self.old.held.session }
         ensures taken { Some result.value ≡ self.old.held.session }
+        ensures watched { result.value.asked.watched ≡ true }
         ensures left { self.new.held.session ≡ None }
     {
         let empty = Board {

@@ -1,18 +1,22 @@
 //! What C calls. `Global` has no place in C: each call takes what is written before and after it.
 
-ghost use Rattle.std.specs.Prelude.{◌≡◌, None, IfOk, IfErr, IfSome, IfNone};
-ghost use Rattle.lf_verdict.specs.declared.answer.Verdict.{Verdict};
+ghost use Rattle.std.specs.Prelude.{◌≡◌, true, None, Ok, IfOk, IfErr, IfSome, IfNone};
+ghost use Rattle.lf_rules.specs.InRange.{IsShape};
+ghost use Rattle.lf_config.specs.Configuration.{configuration_of};
+ghost use Rattle.lf_verdict.specs.declared.answer.Outcome.{Outcome};
 ghost use Rattle.lf_verdict.specs.Named.{NoneBrokeSoFar};
-ghost use Rattle.run_engine.specs.Line.{verdict_text};
+ghost use Rattle.lf_verdict.specs.Session.{IsConfigRefusal};
+ghost use Rattle.run_engine.specs.Line.{outcome_text};
 ghost use Rattle.library_c.specs.Answers.{IsLine, IsOpened, IsNoConfiguration, IsOpening, IsFedMore, IsFeeding};
 ghost use Rattle.library_c.specs.Answers.{IsFedTold, IsFeedingTold, IsBroken, IsAsking, IsJudged, IsFinishing};
 ghost use Rattle.library_c.specs.Answers.{abort_status};
 
 use crate::answer::{Answer, FINE, MISUSED, REFUSED, broken_status, status_of};
 use crate::board::Board;
-use crate::line::{tell_broken, tell_verdict};
-use lf_config::ConfigFault;
-use lf_verdict::{Broken, Refusal, Session, Verdict};
+use crate::line::{tell_broken, tell_outcome};
+use lf_config::{ConfigFault, read};
+use lf_rules::Shape;
+use lf_verdict::{Asked, Broken, Outcome, Refusal, Session};
 use std::alloc::Global;
 
 /// The version of the library, as major * 10000 + minor * 100 + patch.
@@ -25,15 +29,24 @@ pub extern "C" fn wudzark_version() -> u32
 
 /// The answer of a refusal, with its line.
 fn refused(alloc: Global, refusal: Refusal, line: &mut [u8]) -> Answer
-    ensures { IsLine 2 (verdict_text (Verdict.Refused refusal)) result line.old line.new }
+    ensures { IsLine 2 (outcome_text (Outcome.Refused refusal)) result line.old line.new }
 {
     Answer {
         status: REFUSED,
-        length: tell_verdict(alloc, &Verdict::Refused(refusal), line),
+        length: tell_outcome(alloc, &Outcome::Refused(refusal), line),
     }
 }
 
-/// A session on the heap, for the hierarchy that the bytes say.
+/// The hierarchy that the text says.
+fn shape_in(alloc: Global, text: &str) -> Result<Shape, Refusal>
+    ensures shape { IfOk result (λ shape. configuration_of text.now ≡ Ok shape) }
+    ensures in_range { IfOk result IsShape }
+    ensures refused { IfErr result (IsConfigRefusal text.now) }
+{
+    Ok(read(alloc, text)?)
+}
+
+/// A session on the heap, for the hierarchy that the bytes say. It keeps no order, which no call tells.
 fn session_for(alloc: Global, config: &[u8]) -> Result<Box<Session>, Refusal>
     ensures ok { IfOk result (λ s. IsOpened config.now s.value) }
     ensures err { IfErr result (IsNoConfiguration config.now) }
@@ -41,7 +54,13 @@ fn session_for(alloc: Global, config: &[u8]) -> Result<Box<Session>, Refusal>
     let Ok(text) = std::str::from_utf8(config) else {
         return Err(Refusal::Config(ConfigFault::NotToml));
     };
-    let session = Session::new(alloc, text)?;
+    let shape = shape_in(alloc, text)?;
+    let asked = Asked {
+        ordered: false,
+        watched: true,
+        counted: false,
+    };
+    let session = Session::asking(alloc, &shape, asked);
     match Box::new(alloc, session) {
         Ok(session) => Ok(session),
         Err(_) => Err(Refusal::Memory),
@@ -129,6 +148,7 @@ pub extern "C" fn wudzark_feed_told(
 
 /// What broke of the session's trace for good.
 fn broken(session: &Session) -> Option<Broken>
+    requires { session.now.asked.watched ≡ true }
     ensures some { IfSome result (IsBroken session.now) }
     ensures none { session.now.stop ≡ None → IfNone result (NoneBrokeSoFar session.now.shape session.now.fed) }
 {
@@ -159,10 +179,10 @@ pub extern "C" fn wudzark_broken(alloc: Global, board: &mut Board, line: &mut [u
 }
 
 /// The verdict of the bytes that the session was fed.
-fn finish(session: Session) -> Verdict
+fn finish(session: Session) -> Outcome
     ensures { IsJudged session result }
 {
-    session.finish()
+    session.conclude().outcome
 }
 
 /// The verdict of the bytes that the board was fed, with its line: status 0 for a yes, 1 for a no, 2 for a refusal. The
@@ -176,10 +196,10 @@ pub extern "C" fn wudzark_finish(alloc: Global, board: &mut Board, line: &mut [u
         return Answer::silent(MISUSED);
     }
     let session = board.take(alloc);
-    let verdict = finish(Box::into_inner(session));
+    let outcome = finish(Box::into_inner(session));
     Answer {
-        status: status_of(&verdict),
-        length: tell_verdict(alloc, &verdict, line),
+        status: status_of(&outcome),
+        length: tell_outcome(alloc, &outcome, line),
     }
 }
 

@@ -1,10 +1,10 @@
 //! The line of an answer, in a buffer of the caller's. It has no newline and no zero at its end.
 
 ghost use Rattle.std.specs.Prelude.{◌≡◌, MatchResult, string_bytes};
-ghost use Rattle.run_engine.specs.Line.{verdict_text};
+ghost use Rattle.run_engine.specs.Line.{outcome_text};
 ghost use Rattle.library_c.specs.Answers.{over, IsTold, IsQuiet, broken_words};
 
-use lf_verdict::{Broken, Verdict};
+use lf_verdict::{Broken, Outcome};
 use run_engine::Line;
 use std::alloc::{AllocError, Global};
 
@@ -31,10 +31,10 @@ fn put(text: Result<String, AllocError>, line: &mut [u8]) -> usize
 }
 
 /// Writes the line of the verdict, and answers its length.
-pub(crate) fn tell_verdict(alloc: Global, verdict: &Verdict, line: &mut [u8]) -> usize
-    ensures { IsTold (verdict_text verdict.now) line.old line.new result }
+pub(crate) fn tell_outcome(alloc: Global, outcome: &Outcome, line: &mut [u8]) -> usize
+    ensures { IsTold (outcome_text outcome.now) line.old line.new result }
 {
-    let told = Line::Judged(verdict);
+    let told = Line::Concluded(outcome);
     put(format!(in alloc; "{told}"), line)
 }
 

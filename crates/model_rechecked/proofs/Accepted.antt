@@ -39,8 +39,10 @@ module _ (legal : YesIsLegal) (interleave : OrdersInterleave) (one_answer : Rech
 
   pub yes_is_rechecked : YesIsRechecked
   yes_is_rechecked shape bytes events order is memory logs t answer =
+      let one = is.yes in
+      let legal_by = legal shape bytes order one.memory one.logs one.trace one.ordered.parts is.least.is_order in
       let accepted : IsRecheck shape (flat_memory memory) logs order Accepted =
-      named_run shape bytes order memory logs (legal shape bytes events order is) t in (
+      named_run shape bytes order memory logs legal_by t in (
         λ answered. one_answer shape (flat_memory memory) logs order answer Accepted
             (trace_names shape bytes memory logs t) answered accepted,
         λ e. subst (IsRecheck shape (flat_memory memory) logs order) (sym e) accepted,

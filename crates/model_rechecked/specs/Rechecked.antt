@@ -8,10 +8,10 @@ use Rattle.lf_rules.specs.Address.{flat_memory}
 use Rattle.lf_rules.specs.Fits.{Bytes}
 use Rattle.lf_model.specs.Recheck.{IsRecheck}
 use Rattle.lf_verdict.specs.Legal.{IsTraceFor}
-use Rattle.lf_verdict.specs.Verdict.{IsYes}
+use Rattle.lf_verdict.specs.Verdict.{IsLeastYes}
 
 -- The order of a yes is accepted, of the memory and the logs of the trace, and `recheck` answers nothing else to it.
 abbrev pub YesIsRechecked : Type 0
-YesIsRechecked = (shape : Shape) (bytes : List ℕ) (events : ℕ) (order : List ℕ) → IsYes shape bytes events order
+YesIsRechecked = (shape : Shape) (bytes : List ℕ) (events : ℕ) (order : List ℕ) → IsLeastYes shape bytes events order
     → (memory : List (ℕ × Bytes)) (logs : List (List Record)) → IsTraceFor shape bytes memory logs
     → (answer : Recheck) → IsRecheck shape (flat_memory memory) logs order answer ↔ (answer ≡ Accepted)

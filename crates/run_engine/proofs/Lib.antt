@@ -1,10 +1,6 @@
-pub mod JudgingLemmas
-pub mod UnorderedLemmas
-pub mod RunLemmas
+pub mod Broken
 pub mod GatheringLemmas
-pub mod ReportLemmas
+pub mod JudgingLemmas
 pub mod TellingLemmas
-pub mod ProgramLemmas
-pub mod CompletionLemmas
-pub mod ExplainLemmas
-pub mod JsonLemmas
+pub mod Whole
+pub mod Program

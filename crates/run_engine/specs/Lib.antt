@@ -1,8 +1,7 @@
 -- What callers read: the words of the public calls.
 pub mod Run
-pub mod Report
+pub mod Program
+pub mod Needs
+pub mod Asks
 pub mod Line
 pub mod Gathered
-pub mod Watch
-pub mod Complete
-pub mod Explain

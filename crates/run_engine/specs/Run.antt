@@ -1,24 +1,26 @@
--- What a run of the engine reads, answers and writes.
-use Rattle.std.specs.Prelude.{◌≡◌, ◌≢◌, ℕ, ◌≤◌, ◌<◌, ◌↔◌, ◌⊎◌, List, take, Result, Ok, Err}
-use Rattle.std.specs.Prelude.{IfOk, IfErr, IfSome, IsErrOf}
-use Rattle.lf_rules.specs.declared.outcome.NoMemory.{NoMemory}
+-- What a run reads, answers and writes, whatever is asked.
+use Rattle.std.specs.Prelude.{◌≡◌, ◌≢◌, ◌⊎◌, ◌↔◌, ℕ, ◌≤◌, ◌<◌, List, take, true, false, Option, Some, None}
+use Rattle.std.specs.Prelude.{Result, Ok, Err, IfOk, IfErr, IfSome, IsErrOf}
+use Rattle.trace_fed.specs.declared.fed.Fed.{Fed}
 use Rattle.lf_rules.specs.declared.shape.Shape.{Shape}
 use Rattle.lf_codec.specs.Laws.{AreBytes}
-use Rattle.lf_verdict.specs.declared.answer.Verdict.{Verdict}
-use Rattle.lf_verdict.specs.declared.answer.Verdict.TheVariants.{Yes, No, Refused}
-use Rattle.lf_verdict.specs.declared.answer.Refusal.{Refusal}
-use Rattle.lf_verdict.specs.declared.answer.Refusal.TheVariants.{Workers, Config, Memory, Thread}
 use Rattle.lf_config.specs.Configuration.{configuration_of}
-use Rattle.lf_verdict.specs.Verdict.{IsWorkerCount, IsDecided}
+use Rattle.lf_verdict.specs.declared.answer.Outcome.{Outcome}
+use Rattle.lf_verdict.specs.declared.answer.Outcome.TheVariants.{Refused}
+use Rattle.lf_verdict.specs.declared.answer.Refusal.{Refusal}
+use Rattle.lf_verdict.specs.declared.answer.Refusal.TheVariants.{Workers, Config, Memory}
+use Rattle.lf_verdict.specs.declared.session.conclusion.Conclusion.{Conclusion}
+use Rattle.lf_verdict.specs.Conclusion.{IsConclusion, refused, without_memory}
+use Rattle.lf_verdict.specs.Outcome.{IsOutcomeOf, IsDecidedOutcome}
 use Rattle.lf_verdict.specs.Configured.{IsConfigFault}
+use Rattle.lf_verdict.specs.Verdict.{IsWorkerCount}
 use Rattle.run_stream.specs.Account.{Account, WentOut}
-use Rattle.run_stream.specs.declared.gathering.Stop.{Stop}
-use Rattle.run_stream.specs.declared.gathering.Stop.TheVariants as stops
 use Rattle.run_stream.specs.Gathered.{IsPartRead, IsAllRead, GoesOn, EndsOnce}
+use Rattle.run_engine.specs.declared.ask.Needs.{Needs}
 use Rattle.run_engine.specs.declared.fault.RunFault.{RunFault}
 use Rattle.run_engine.specs.declared.fault.RunFault.TheVariants.{Read, Turns, Write}
-use Rattle.run_engine.specs.Line.{line_of, not_read_line}
-use Rattle.run_engine.specs.Gathered.{HasFault}
+use Rattle.run_engine.specs.declared.judging.Judged.{Judged}
+use Rattle.run_engine.specs.Gathered.{HasFault, HasEnough}
 
 -- ---- what is read
 
@@ -27,134 +29,126 @@ abbrev pub piece_len : ℕ
 piece_len = 65536
 
 -- These are the bytes that the reader answered between two moments, and then no more were wanted: the last read
--- answered none, or a fault stands in them, which came with the last read.
-pub record Reads (old new : Account) (bytes : List ℕ) : Type 0 where
+-- answered none, or what makes them enough came with it.
+pub record ReadsUntil (HasEnough : List ℕ → Type 0) (old new : Account) (bytes : List ℕ) : Type 0 where
   pub are_bytes : AreBytes bytes
-  pub all : IsAllRead HasFault piece_len old new bytes
+  pub all : IsAllRead HasEnough piece_len old new bytes
 
--- The reader answered bytes in which no fault stands.
-abbrev pub GaveSound : Account → Account → Type 0
-GaveSound old new = (bytes : List ℕ) × IsPartRead HasFault old new bytes
+-- ... where a fault makes them enough
+abbrev pub Reads : Account → Account → List ℕ → Type 0
+Reads old new bytes = ReadsUntil HasFault old new bytes
+
+-- The reader answered bytes that are not enough.
+abbrev pub GaveSome : (List ℕ → Type 0) → Account → Account → Type 0
+GaveSome HasEnough old new = (bytes : List ℕ) × IsPartRead HasEnough old new bytes
 
 -- ---- what is answered
 
--- There can be so many workers and the text says a shape, so the trace is asked for.
-abbrev pub IsAsked : List ℕ → ℕ → Type 0
-IsAsked text workers = IsWorkerCount workers × ((shape : Shape) × (configuration_of text ≡ Ok shape))
+-- What is said of these bytes is so of all bytes: they are all, or what is refused in them is refused in all.
+abbrev pub IsWhole : Shape → List ℕ → List ℕ → Outcome → Type 0
+IsWhole shape bytes all (Refused refusal) = IsDecidedOutcome (Refused refusal) → IsOutcomeOf shape all (Refused refusal)
+IsWhole shape bytes all outcome = all ≡ bytes
 
--- The refusal comes before the trace is asked for.
+-- What is concluded is so of the bytes that the reader answered until no more were wanted. It is so of all that the
+-- reader had, where that is known, unless the run was to end early.
+pub record IsOfRead (old new : Account) (needs : Needs) (shape : Shape) (c : Conclusion) : Type 0 where
+  pub is : IsConclusion needs.asked shape c
+  pub reads : IsDecidedOutcome c.outcome → ReadsUntil (HasEnough needs shape) old new c.fed.bytes
+  pub whole : needs.early ≡ false → IfSome old.known (λ all. IsWhole shape c.fed.bytes all c.outcome)
+
+-- What a run came to before it wrote.
+pub record IsJudged (old new : Account) (needs : Needs) (shape : Shape) (turns : ℕ) (came_to : Result Judged RunFault) :
+    Type 0 where
+  -- No more reads than the caller allows. A read that answers no bytes is the last one.
+  pub reads : new.calls ≤ turns
+  pub once : EndsOnce old.pieces new.pieces
+  pub concluded : IfOk came_to (λ j. IsOfRead old new needs shape j.conclusion)
+  -- The bytes are there where they are needed.
+  pub kept : IfOk came_to (λ j. needs.bytes ≡ true → IsDecidedOutcome j.conclusion.outcome →
+      j.bytes.items ≡ j.conclusion.fed.bytes)
+  -- When each fault comes.
+  pub read : (came_to ≡ Err Read) ↔ (0 < new.failures)
+  pub turned : came_to ≡ Err Turns → new.calls ≡ turns
+  -- Where a read failed or the turns were used up, what was read was not enough, and no read said that the bytes end.
+  pub sound : IfErr came_to (λ _. GaveSome (HasEnough needs shape) old new)
+  pub unended : IfErr came_to (λ _. GoesOn old.pieces new.pieces)
+  pub no_write : came_to ≢ Err Write
+
+abbrev pub conclusion_in : Result Judged RunFault → Result Conclusion RunFault
+conclusion_in (Ok judged) = Ok judged.conclusion
+conclusion_in (Err fault) = Err fault
+
+-- ---- what is written
+
+-- What is told is what a run came to, or that memory ran out in telling it.
+abbrev pub Follows : Result Conclusion RunFault → Result Conclusion RunFault → Type 0
+Follows (Ok c) told = (told ≡ Ok c) ⊎ (told ≡ Ok (without_memory c.fed))
+Follows (Err fault) told = told ≡ Err fault
+
+-- The text is due for this answer: for a conclusion what is asked, and otherwise what says that the trace was not read.
+abbrev pub IsTextFor : (Conclusion → List ℕ → Type 0) → List ℕ → Result Conclusion RunFault → List ℕ → Type 0
+IsTextFor IsDue lost (Ok c) text = IsDue c text
+IsTextFor IsDue lost (Err fault) text = text ≡ lost
+
+-- What went out after a write that failed is the beginning of what was due.
+pub record IsBeginning (writer writer' : Account) (came_to : Result Conclusion RunFault)
+    (IsDue : Conclusion → List ℕ → Type 0) (lost : List ℕ) : Type 0 where
+  pub told : Result Conclusion RunFault
+  pub follows : Follows came_to told
+  pub text : List ℕ
+  pub due : IsTextFor IsDue lost told text
+  pub n : ℕ
+  pub out : WentOut writer writer' (take n text)
+
+-- What a run came to was told. The count of the writer's failures was 0.
+pub record IsTold (writer writer' : Account) (came_to : Result Conclusion RunFault)
+    (IsDue : Conclusion → List ℕ → Type 0) (lost : List ℕ) (answer : Result Conclusion RunFault) : Type 0 where
+  pub write : IsErrOf answer Write ↔ (0 < writer'.failures)
+  pub follows : answer ≢ Err Write → Follows came_to answer
+  pub written : answer ≢ Err Write → (text : List ℕ) × IsTextFor IsDue lost answer text × WentOut writer writer' text
+  pub prefix : answer ≡ Err Write → IsBeginning writer writer' came_to IsDue lost
+
+-- ---- a run
+
+-- A run for a shape: it came to this, and told it. The counts of the reader and of the writer were 0.
+pub record IsRun (reader reader' writer writer' : Account) (needs : Needs) (shape : Shape)
+    (IsDue : Conclusion → List ℕ → Type 0) (lost : List ℕ) (turns : ℕ) (answer : Result Conclusion RunFault) : Type 0
+  where
+    pub came_to : Result Judged RunFault
+    pub judged : IsJudged reader reader' needs shape turns came_to
+    pub told : IsTold writer writer' (conclusion_in came_to) IsDue lost answer
+
+-- The trace was not asked for: nothing was read, and the refusal was told.
+pub record IsRefused (reader reader' writer writer' : Account) (IsDue : Conclusion → List ℕ → Type 0) (lost : List ℕ)
+    (refusal : Refusal) (answer : Result Conclusion RunFault) : Type 0 where
+  pub unread : reader' ≡ reader
+  pub fed : Fed
+  pub told : IsTold writer writer' (Ok (refused fed refusal)) IsDue lost answer
+
+-- The one for a shape that was found, the other where one was refused.
+abbrev pub IsRunOn : Account → Account → Account → Account → Needs → (Option Shape → Conclusion → List ℕ → Type 0) →
+    List ℕ → ℕ → Result Shape Refusal → Result Conclusion RunFault → Type 0
+IsRunOn reader reader' writer writer' needs IsDue lost turns (Ok shape) answer =
+    IsRun reader reader' writer writer' needs shape (IsDue (Some shape)) lost turns answer
+IsRunOn reader reader' writer writer' needs IsDue lost turns (Err refusal) answer =
+    IsRefused reader reader' writer writer' (IsDue None) lost refusal answer
+
+-- The refusal comes before the trace is asked for: the workers are judged first, then the text.
 abbrev pub IsRefusedFirst : List ℕ → ℕ → Refusal → Type 0
 IsRefusedFirst text workers (Workers n) = (n ≡ workers) × ¬ IsWorkerCount workers
 IsRefusedFirst text workers (Config fault) = IsWorkerCount workers × IsConfigFault text fault
 IsRefusedFirst text workers Memory = Unit {0}
 IsRefusedFirst text workers _ = ⊥
 
--- The verdict is that of the bytes that the reader answered. Where the trace was not asked for, nothing was read.
-pub record IsVerdictOfRead (old new : Account) (asked : Type 0) (IsVerdict : List ℕ → Verdict → Type 0)
-    (v : Verdict) : Type 0 where
-  pub bytes : List ℕ
-  pub reads : asked → Reads old new bytes
-  pub verdict : IsVerdict bytes v
+-- There can be so many workers, and the text says the shape; or it is refused.
+abbrev pub IsShapeFor : List ℕ → ℕ → Result Shape Refusal → Type 0
+IsShapeFor text workers (Ok shape) = IsWorkerCount workers × (configuration_of text ≡ Ok shape)
+IsShapeFor text workers (Err refusal) = IsRefusedFirst text workers refusal
 
--- The bytes that the reader answered are a legal trace, by this order.
-pub record IsLegalRead (old new : Account) (IsLegal : List ℕ → List ℕ → Type 0) (order : List ℕ) : Type 0 where
-  pub bytes : List ℕ
-  pub reads : Reads old new bytes
-  pub legal : IsLegal bytes order
-
--- The bytes that the reader answered have no run where the verdict is a no.
-pub record IsRunlessRead (old new : Account) (IsRunless : List ℕ → Type 0) : Type 0 where
-  pub bytes : List ℕ
-  pub reads : Reads old new bytes
-  pub runless : IsRunless bytes
-
-abbrev pub IfNo : Verdict → Type 0 → Type 0
-IfNo (No fault) P = P
-IfNo _ P = Unit {0}
-
-abbrev pub IfYes : Verdict → (List ℕ → Type 0) → Type 0
-IfYes (Yes events order) P = P order.items
-IfYes _ P = Unit {0}
-
--- What a run came to before it wrote: when the trace is asked for, which orders make it legal and which verdict is
--- that of some bytes is as it was said.
-pub record IsOutcome (old new : Account) (asked : Type 0) (IsLegal : List ℕ → List ℕ → Type 0)
-    (IsVerdict : List ℕ → Verdict → Type 0) (turns : ℕ) (outcome : Result Verdict RunFault) : Type 0 where
-  pub reads : new.calls ≤ turns
-  pub unread : ¬ asked → new ≡ old
-  pub once : EndsOnce old.pieces new.pieces
-  pub verdict : IfOk outcome (λ v. IsDecided v → IsVerdictOfRead old new asked IsVerdict v)
-  pub legal : IfOk outcome (λ v. IfYes v (IsLegalRead old new IsLegal))
-  pub no_thread : outcome ≢ Ok (Refused Thread)
-  pub read : (outcome ≡ Err Read) ↔ (0 < new.failures)
-  pub turned : outcome ≡ Err Turns → new.calls ≡ turns
-  pub sound : IfErr outcome (λ _. GaveSound old new)
-  pub unended : IfErr outcome (λ _. GoesOn old.pieces new.pieces)
-  pub no_write : outcome ≢ Err Write
-
--- what a run comes to whose reading stopped before the bytes were all there
-abbrev pub stopped_outcome : Stop NoMemory → Result Verdict RunFault
-stopped_outcome stops.Read = Err Read
-stopped_outcome stops.Turns = Err Turns
-stopped_outcome (stops.Sink _) = Ok (Refused Memory)
-
--- What is told is what a run came to, or that memory ran out in telling a verdict.
-abbrev pub Follows : Result Verdict RunFault → Result Verdict RunFault → Type 0
-Follows (Ok v) (Ok told) = (told ≡ v) ⊎ (told ≡ Refused Memory)
-Follows (Ok v) (Err e) = ⊥
-Follows (Err e) told = told ≡ Err e
-
--- ---- what is written
-
--- the line of what a run came to
-abbrev pub outcome_line : Result Verdict RunFault → List ℕ
-outcome_line (Ok v) = line_of v
-outcome_line (Err e) = not_read_line
-
-abbrev pub IsLine : Result Verdict RunFault → List ℕ → Type 0
-IsLine answer text = text ≡ outcome_line answer
-
--- ---- a run of the program
-
--- What a run reads, answers and writes. The words handed in say when the trace is asked for, by which orders bytes
--- are legal, what a no means of bytes, which verdict they have, and which text is due for an answer. The counts of
--- the reader and of the writer were 0. What is said of the bytes that the reader answered holds for any reader, and
--- what is said of all that it had for one of which that is known.
-pub record IsRunWriting (reader reader' writer writer' : Account) (asked : Type 0)
-    (IsLegal : List ℕ → List ℕ → Type 0) (IsRunless IsVerdict : List ℕ → Verdict → Type 0)
-    (IsDue : Result Verdict RunFault → List ℕ → Type 0) (turns : ℕ) (answer : Result Verdict RunFault) : Type 0 where
-  -- No more reads than the caller allows, and none where the trace is not asked for.
-  pub reads : reader'.calls ≤ turns
-  pub unread : ¬ asked → reader' ≡ reader
-  -- A read that answers no bytes is the last one.
-  pub once : EndsOnce reader.pieces reader'.pieces
-  -- A yes means that the bytes that the reader answered are a legal trace, and so are all that it had.
-  pub legal : IfOk answer (λ v. IfYes v (IsLegalRead reader reader' IsLegal))
-  pub legal_whole : IfOk answer (λ v. IfSome reader.known (λ bytes. IfYes v (IsLegal bytes)))
-  -- A no means that the bytes that the reader answered have no run, and so with all that it had.
-  pub runless : IfOk answer (λ v. IfNo v (IsRunlessRead reader reader' (λ bytes. IsRunless bytes v)))
-  pub runless_whole : IfOk answer (λ v. IfSome reader.known (λ bytes. IsRunless bytes v))
-  -- The verdict is that of the bytes that the reader answered, and of all that it had.
-  pub verdict : IfOk answer (λ v. IsDecided v → IsVerdictOfRead reader reader' asked IsVerdict v)
-  pub whole : IfOk answer (λ v. IsDecided v → IfSome reader.known (λ bytes. IsVerdict bytes v))
-  pub thread : answer ≢ Ok (Refused Thread)
-  -- What goes out is the text that is due for the answer.
-  pub written : answer ≢ Err Write → (text : List ℕ) × IsDue answer text × WentOut writer writer' text
-  -- When each fault comes.
-  pub read : IsErrOf answer Read ↔ ((0 < reader'.failures) × (writer'.failures ≡ 0))
-  pub turns_ran_out : IsErrOf answer Turns → reader'.calls ≡ turns
-  pub write : IsErrOf answer Write ↔ (0 < writer'.failures)
-  -- Where a read failed or the turns were used up, no fault stood in what was read, and no read said that the bytes
-  -- end.
-  pub sound : IfErr answer (λ e. e ≢ Write → GaveSound reader reader')
-  pub unended : IfErr answer (λ e. e ≢ Write → GoesOn reader.pieces reader'.pieces)
-  -- Where a write failed, what went out is the beginning of what was due.
-  pub prefix : IsErrOf answer Write → (told : Result Verdict RunFault)
-      × IsOutcome reader reader' asked IsLegal IsVerdict turns told
-      × ((text : List ℕ) × IsDue told text × ((n : ℕ) × WentOut writer writer' (take n text)))
-
--- What goes out is the line of the verdict, or that the trace was not read.
-abbrev pub IsRunOfProgram : Account → Account → Account → Account → Type 0 → (List ℕ → List ℕ → Type 0)
-    → (List ℕ → Verdict → Type 0) → (List ℕ → Verdict → Type 0) → ℕ → Result Verdict RunFault → Type 0
-IsRunOfProgram reader reader' writer writer' asked IsLegal IsRunless IsVerdict turns answer =
-    IsRunWriting reader reader' writer writer' asked IsLegal IsRunless IsVerdict IsLine turns answer
+-- A run for the text of a configuration.
+pub record IsRunFor (reader reader' writer writer' : Account) (text : List ℕ) (workers : ℕ) (needs : Needs)
+    (IsDue : Option Shape → Conclusion → List ℕ → Type 0) (lost : List ℕ) (turns : ℕ)
+    (answer : Result Conclusion RunFault) : Type 0 where
+  pub found : Result Shape Refusal
+  pub is_found : IsShapeFor text workers found
+  pub run : IsRunOn reader reader' writer writer' needs IsDue lost turns found answer

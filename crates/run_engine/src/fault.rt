@@ -1,16 +1,9 @@
 //! Why a run gave no verdict.
 
-ghost use Rattle.std.specs.Prelude.{◌≡◌, IfOk};
-ghost use Rattle.lf_verdict.specs.declared.answer.Verdict.TheVariants.{Refused};
-ghost use Rattle.lf_verdict.specs.declared.answer.Refusal.TheVariants.{Memory};
-ghost use Rattle.run_engine.specs.Run.{stopped_outcome};
-
-use lf_rules::NoMemory;
-use lf_verdict::{Refusal, Verdict};
-use run_stream::{NotWritten, Stop};
+use run_stream::NotWritten;
 use thiserror::Error;
 
-/// Why a run gave no verdict, or did not write its line.
+/// Why a run gave no verdict, or did not write its text.
 #[derive(Clone, Copy, Debug, PartialEq, Eq, Error)]
 pub enum RunFault {
     /// A read failed.
@@ -32,17 +25,5 @@ impl From<NotWritten> for RunFault {
 
     fn from(_fault: NotWritten) -> Self {
         RunFault::Write
-    }
-}
-
-/// What a run comes to whose reading stopped before the bytes were all there. Where memory ran out that is a verdict.
-pub fn stopped(stop: Stop<NoMemory>) -> Result<Verdict, RunFault>
-    ensures outcome { result ≡ stopped_outcome stop }
-    ensures memory { IfOk result (λ v. v ≡ Refused Memory) }
-{
-    match stop {
-        Stop::Sink(NoMemory) => Ok(Verdict::Refused(Refusal::Memory)),
-        Stop::Read => Err(RunFault::Read),
-        Stop::Turns => Err(RunFault::Turns),
     }
 }

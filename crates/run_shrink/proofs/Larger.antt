@@ -29,6 +29,6 @@ breaks shape wanted kept h = record {
   records = kept.records.items;
   trace = h.trace;
   count = refl;
-  verdict = h.verdict;
+  outcome = h.outcome;
   is_wanted = h.is_wanted;
 }

@@ -1,2 +1,1 @@
 pub mod Larger
-mod FoundOfRead

@@ -2,7 +2,7 @@
 use Rattle.std.specs.Prelude.{ℕ, List, ◌∷◌, ◌++◌, codes}
 use Rattle.std.specs.Fmt.{decimal}
 use Rattle.lf_verdict.specs.Text.{fault_text}
-use Rattle.run_engine.specs.Line.{verdict_text}
+use Rattle.run_engine.specs.Line.{outcome_text}
 use Rattle.run_shrink.specs.declared.shrink.Shrunk.{Shrunk}
 use Rattle.run_shrink.specs.declared.shrink.Shrinking.{Shrinking}
 use Rattle.run_shrink.specs.declared.shrink.Shrinking.TheVariants as shrinkings
@@ -19,5 +19,5 @@ abbrev pub shrunk_text : Shrunk → List ℕ
 shrunk_text shrunk = codes "no " ++ fault_text (fault_of shrunk.fault) ++ 10 ∷ search_text shrunk
 
 abbrev pub shrinking_text : Shrinking → List ℕ
-shrinking_text (shrinkings.Judged verdict) = verdict_text verdict
+shrinking_text (shrinkings.Judged outcome) = outcome_text outcome
 shrinking_text (shrinkings.Shrunk shrunk) = shrunk_text shrunk

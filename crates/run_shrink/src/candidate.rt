@@ -2,14 +2,14 @@
 
 ghost use Rattle.std.specs.Prelude.{◌≡◌, ◌≤◌, ◌<◌, IfOk, IfSome, length};
 ghost use Rattle.lf_rules.specs.InRange.{IsShape};
-ghost use Rattle.lf_verdict.specs.Verdict.{IsDecided, IsVerdictOf};
+ghost use Rattle.lf_verdict.specs.Outcome.{IsDecidedOutcome, IsOutcomeOf};
 ghost use Rattle.run_shrink.specs.Broken.{fault_of, IsWanted};
 ghost use Rattle.run_shrink.specs.Candidate.{IsKept, IsSmallerThan};
 
 use crate::broken::{RuleFault, Wanted};
 use lf_codec::{Header, encode, fits_trace};
 use lf_rules::{Memory, NoMemory, Record, Shape};
-use lf_verdict::{Refusal, Session, Verdict};
+use lf_verdict::{Asked, Outcome, Refusal, Session};
 use std::alloc::Global;
 
 /// The memory and the records of a trace that was not judged yet.
@@ -19,7 +19,7 @@ pub(crate) struct Candidate {
     pub records: Vec<Record>,
 }
 
-/// A trace whose verdict is a no by the rule that is wanted.
+/// A trace whose outcome is a no by the rule that is wanted.
 #[derive(Drop)]
 pub(crate) struct Kept {
     pub memory: Memory,
@@ -28,15 +28,20 @@ pub(crate) struct Kept {
     pub fault: RuleFault,
 }
 
-/// The verdict of these bytes.
-fn verdict_of(alloc: Global, shape: &Shape, bytes: &[u8]) -> Verdict
+/// The outcome of these bytes.
+fn outcome_of(alloc: Global, shape: &Shape, bytes: &[u8]) -> Outcome
     requires { IsShape shape.now }
-    ensures { IsDecided result → IsVerdictOf shape.now 1 bytes.now result }
+    ensures { IsDecidedOutcome result → IsOutcomeOf shape.now bytes.now result }
 {
-    let mut session = Session::for_shape(alloc, shape);
-    // After a refusal, that is the verdict.
+    let asked = Asked {
+        ordered: false,
+        watched: false,
+        counted: false,
+    };
+    let mut session = Session::asking(alloc, shape, asked);
+    // After a refusal, that is the outcome.
     let _ = session.feed(bytes);
-    session.finish()
+    session.conclude().outcome
 }
 
 /// The fault of these bytes, where it is one that is wanted.
@@ -48,13 +53,13 @@ fn wanted_fault(
     bytes: &[u8],
 ) -> Result<Option<RuleFault>, NoMemory>
     requires { IsShape shape.now }
-    ensures verdict { IfOk result (λ found. IfSome found (λ fault. IsVerdictOf shape.now 1 bytes.now
-        (Verdict.No (fault_of fault)))) }
+    ensures outcome { IfOk result (λ found. IfSome found (λ fault. IsOutcomeOf shape.now bytes.now
+        (Outcome.No (fault_of fault)))) }
     ensures wanted { IfOk result (λ found. IfSome found (λ fault. IsWanted wanted records.now fault)) }
 {
-    let fault = match verdict_of(alloc, shape, bytes) {
-        Verdict::No(fault) => fault,
-        Verdict::Refused(Refusal::Memory) => return Err(NoMemory),
+    let fault = match outcome_of(alloc, shape, bytes) {
+        Outcome::No(fault) => fault,
+        Outcome::Refused(Refusal::Memory) => return Err(NoMemory),
         _ => return Ok(None),
     };
     match RuleFault::of(&fault) {
@@ -63,7 +68,7 @@ fn wanted_fault(
     }
 }
 
-/// The candidate, where it is smaller than the smallest trace so far and its verdict is a no that is wanted.
+/// The candidate, where it is smaller than the smallest trace so far and its outcome is a no that is wanted.
 pub(crate) fn kept_if(
     alloc: Global,
     shape: &Shape,

@@ -1,7 +1,7 @@
 //! A smaller trace with the same rule broken, by an event of the same kind.
 //!
-//! `run_shrink` reads a trace and judges it. Where the verdict is that a port or a bank breaks a rule, it leaves
-//! records out, part by part, and has each trace that is left judged again. The smallest one of which the verdict
+//! `run_shrink` reads a trace and judges it. Where the outcome is that a port or a bank breaks a rule, it leaves
+//! records out, part by part, and has each trace that is left judged again. The smallest one of which the outcome
 //! is a no by the same rule, upon an event of the same kind, is what it answers. `specs/Shrunk.antt` says what is
 //! known of it. How small it gets is tested, and not proved.
 #![tactic(auto)]

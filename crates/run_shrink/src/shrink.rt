@@ -1,28 +1,30 @@
 //! Reads the bytes of a trace, judges them, and searches for a smaller trace with the same rule broken.
 
-ghost use Rattle.std.specs.Prelude.{◌≡◌, ◌↔◌, ℕ, List, Ok, IfOk, IfSome, IfNone};
+ghost use Rattle.std.specs.Prelude.{◌≡◌, ◌↔◌, Result, IfOk, IfSome, IfNone, false};
+ghost use Rattle.lf_rules.specs.declared.shape.Shape.{Shape};
 ghost use Rattle.lf_rules.specs.InRange.{IsShape};
-ghost use Rattle.lf_config.specs.Configuration.{configuration_of};
-ghost use Rattle.lf_verdict.specs.declared.answer.Verdict.{Verdict};
-ghost use Rattle.lf_verdict.specs.Verdict.{IsWorkerCount, IsDecided, IsVerdictOf};
-ghost use Rattle.lf_verdict.specs.Legal.{IsLegal};
-ghost use Rattle.lf_verdict.specs.Configured.{IsVerdictFor, IsLegalFor};
+ghost use Rattle.lf_verdict.specs.declared.answer.Outcome.{Outcome};
+ghost use Rattle.lf_verdict.specs.declared.answer.Refusal.{Refusal};
+ghost use Rattle.lf_verdict.specs.Conclusion.{IsConclusion};
+ghost use Rattle.lf_verdict.specs.Outcome.{IsDecidedOutcome, IsOutcomeOf};
 ghost use Rattle.run_stream.specs.Counted.{calls_of, failures_of, account_of};
-ghost use Rattle.run_engine.specs.Run.{IsAsked, IsOutcome, Follows};
+ghost use Rattle.run_engine.specs.Needs.{bytes_needs};
+ghost use Rattle.run_engine.specs.Program.{IsAsked};
+ghost use Rattle.run_engine.specs.Run.{IsShapeFor};
 ghost use Rattle.run_shrink.specs.Broken.{fault_of};
 ghost use Rattle.run_shrink.specs.Candidate.{IsKept};
-ghost use Rattle.run_shrink.specs.Shrunk.{IsRuleNo, IsShrunk, IsShrinkingFor, IsShrinking, verdict_of};
+ghost use Rattle.run_shrink.specs.Shrunk.{IsRuleNo, IsShrunk, IsShrinkingOf, IsShrinkingOn};
 
 use crate::broken::{RuleFault, Wanted};
 use crate::candidate::Kept;
 use crate::search::{Found, Limits, Observer, smallest};
 use explain_why::{Trace, trace_in};
 use lf_rules::{NoMemory, Shape};
-use lf_verdict::{Refusal, Verdict};
-use run_engine::{Counted, Judged, RunFault, judge_and_keep, shape_for};
-use run_stream::Source;
+use lf_verdict::{Conclusion, Outcome, Refusal};
+use run_engine::{Counted, Judged, Needs, RunFault, judge, shape_for};
 use std::alloc::Global;
 use std::io::Read;
+use std::thread::Threads;
 
 /// The smallest trace that was found.
 #[derive(Drop, PartialEq)]
@@ -44,24 +46,24 @@ pub struct Shrunk {
 /// What a search for a smaller trace came to.
 #[derive(Drop, PartialEq)]
 pub enum Shrinking {
-    /// The verdict of the trace names no rule, so there is nothing to search for.
-    Judged(Verdict),
+    /// The outcome of the trace names no rule, so there is nothing to search for.
+    Judged(Outcome),
     /// It names one.
     Shrunk(Shrunk),
 }
 
-/// The fault of a verdict that names a rule.
-fn rule_fault(verdict: &Verdict) -> Option<RuleFault>
-    ensures some { IfSome result (λ fault. verdict.now ≡ Verdict.No (fault_of fault)) }
-    ensures none { IfNone result (¬ IsRuleNo verdict.now) }
+/// The fault of an outcome that names a rule.
+fn rule_fault(outcome: &Outcome) -> Option<RuleFault>
+    ensures some { IfSome result (λ fault. outcome.now ≡ Outcome.No (fault_of fault)) }
+    ensures none { IfNone result (¬ IsRuleNo outcome.now) }
 {
-    match verdict {
-        Verdict::No(fault) => RuleFault::of(fault),
+    match outcome {
+        Outcome::No(fault) => RuleFault::of(fault),
         _ => None,
     }
 }
 
-/// The smallest trace that is found for a trace whose verdict has this fault.
+/// The smallest trace that is found for a trace whose outcome has this fault.
 fn shrunk_of<O: Observer>(
     alloc: Global,
     shape: &Shape,
@@ -70,7 +72,7 @@ fn shrunk_of<O: Observer>(
     limits: Limits<'_, O>,
 ) -> Result<Shrunk, NoMemory>
     requires shape { IsShape shape.now }
-    requires verdict { IsVerdictOf shape.now 1 bytes.items (Verdict.No (fault_of fault)) }
+    requires outcome { IsOutcomeOf shape.now bytes.items (Outcome.No (fault_of fault)) }
     ensures shrunk { IfOk result (IsShrunk shape.now bytes.items limits.entry.most) }
     ensures first { IfOk result (λ s. s.first ≡ fault) }
 {
@@ -102,79 +104,37 @@ fn shrunk_of<O: Observer>(
     })
 }
 
-/// Searches where the verdict names a rule. Where memory runs out, that is the verdict.
+/// Searches where the outcome names a rule. Where memory runs out, that is the outcome.
 fn shrinking_of<O: Observer>(
     alloc: Global,
     shape: &Shape,
     judged: Judged,
     limits: Limits<'_, O>,
 ) -> Shrinking
-    requires shape { IsShape shape.now }
-    requires judged { IsDecided judged.verdict → IsVerdictOf shape.now 1 judged.bytes.items judged.verdict }
-    ensures follows { Follows (Ok judged.verdict) (verdict_of (Ok result)) }
-    ensures shrunk { IsShrinkingFor shape.now judged.bytes.items limits.entry.most result }
+    requires in_range { IsShape shape.now }
+    requires concluded { IsConclusion (bytes_needs false).asked shape.now judged.conclusion }
+    requires kept { IsDecidedOutcome judged.conclusion.outcome → judged.bytes.items ≡ judged.conclusion.fed.bytes }
+    ensures { IsShrinkingOf shape.now limits.entry.most judged.conclusion result }
 {
-    let Judged { verdict, bytes, .. } = judged;
-    let Some(fault) = rule_fault(&verdict) else {
-        return Shrinking::Judged(verdict);
+    let Judged { conclusion, bytes } = judged;
+    let Some(fault) = rule_fault(&conclusion.outcome) else {
+        return Shrinking::Judged(conclusion.outcome);
     };
     match shrunk_of(alloc, shape, bytes, fault, limits) {
         Ok(shrunk) => Shrinking::Shrunk(shrunk),
-        Err(NoMemory) => Shrinking::Judged(Verdict::Refused(Refusal::Memory)),
-    }
-}
-
-/// Reads, judges and searches for the shape.
-fn shrink_for<T: AllocGlobal, S: Source, O: Observer>(
-    rt: &T,
-    source: &mut S,
-    shape: &Shape,
-    limits: Limits<'_, O>,
-    turns: u32,
-) -> Result<Shrinking, RunFault>
-    requires calls { (S.account source.old).calls ≡ 0 }
-    requires failures { (S.account source.old).failures ≡ 0 }
-    requires shape { IsShape shape.now }
-    ensures outcome { IsOutcome (S.account source.old) (S.account source.new)
-        (IsWorkerCount 1) (IsLegal shape.now) (IsVerdictOf shape.now 1) turns (verdict_of result) }
-    ensures shrunk { (config : List ℕ) → configuration_of config ≡ Ok shape.now → IfOk result
-        (IsShrinking (S.account source.old) (S.account source.new) config limits.entry.most) }
-{
-    let judged = judge_and_keep(rt, source, shape, turns)?;
-    Ok(shrinking_of(rt.alloc(), shape, judged, limits))
-}
-
-/// Judges the configuration, and only then reads.
-fn shrink_configured<T: AllocGlobal, S: Source, O: Observer>(
-    rt: &T,
-    source: &mut S,
-    config: &str,
-    limits: Limits<'_, O>,
-    turns: u32,
-) -> Result<Shrinking, RunFault>
-    requires calls { (S.account source.old).calls ≡ 0 }
-    requires failures { (S.account source.old).failures ≡ 0 }
-    ensures unread { ¬ IsAsked config.now 1 → source.new ≡ source.old }
-    ensures outcome { IsOutcome (S.account source.old) (S.account source.new)
-        (IsAsked config.now 1) (IsLegalFor config.now) (IsVerdictFor config.now 1) turns (verdict_of result) }
-    ensures shrunk { IfOk result (IsShrinking (S.account source.old) (S.account source.new) config.now
-        limits.entry.most) }
-{
-    match shape_for(rt.alloc(), config, 1) {
-        Ok(shape) => shrink_for(rt, source, &shape, limits, turns),
-        Err(refusal) => Ok(Shrinking::Judged(Verdict::Refused(refusal))),
+        Err(NoMemory) => Shrinking::Judged(Outcome::Refused(Refusal::Memory)),
     }
 }
 
 /// Reads the trace until the reader is at its end or a fault of the format stands in what it gave, and judges it with
-/// one worker for the shape that the configuration says. Where the verdict is that a port or a bank breaks a rule, it
-/// searches for a smaller trace whose verdict is a no by the same rule, upon an event of the same kind: it judges at
+/// one worker for the shape that the configuration says. Where the outcome is that a port or a bank breaks a rule, it
+/// searches for a smaller trace whose outcome is a no by the same rule, upon an event of the same kind: it judges at
 /// most so many, and answers the smallest one of these, or the trace itself. The observer is told after each. Each
 /// read is a turn, and there are at most so many turns. Where the text is no configuration, nothing is read.
 ///
 /// `RunFault::Read` says that a read failed, and `RunFault::Turns` that the turns were used up before the trace was
 /// read.
-pub fn run_shrink<T: AllocGlobal, R: Read, O: Observer>(
+pub fn run_shrink<T: AllocGlobal + Threads + Sync + Send + Copy + 'static, R: Read, O: Observer>(
     rt: &T,
     reader: &mut Counted<R>,
     config: &str,
@@ -185,11 +145,15 @@ pub fn run_shrink<T: AllocGlobal, R: Read, O: Observer>(
     requires calls { calls_of reader.old ≡ 0 }
     requires failures { failures_of reader.old ≡ 0 }
     ensures unread { ¬ IsAsked config.now 1 → reader.new ≡ reader.old }
-    ensures outcome { IsOutcome (account_of R.remaining reader.old) (account_of R.remaining reader.new)
-        (IsAsked config.now 1) (IsLegalFor config.now) (IsVerdictFor config.now 1) turns (verdict_of result) }
-    ensures shrunk { IfOk result (IsShrinking
-        (account_of R.remaining reader.old) (account_of R.remaining reader.new) config.now most) }
+    ensures shrunk { (found : Result Shape Refusal) × IsShapeFor config.now 1 found × IsShrinkingOn
+        (account_of R.remaining reader.old) (account_of R.remaining reader.new) most turns found result }
 {
     let limits = Limits { most, observer };
-    shrink_configured(rt, reader, config, limits, turns)
+    match shape_for(rt.alloc(), config, 1) {
+        Ok(shape) => {
+            let judged = judge(rt, reader, &shape, 1, Needs::bytes(false), turns)?;
+            Ok(shrinking_of(rt.alloc(), &shape, judged, limits))
+        }
+        Err(refusal) => Ok(Shrinking::Judged(Outcome::Refused(refusal))),
+    }
 }

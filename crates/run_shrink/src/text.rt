@@ -42,8 +42,8 @@ impl fmt::Display for Shrinking {
 
     fn fmt<W: fmt::Write>(&self, f: &mut fmt::Formatter<W>) -> fmt::Result {
         match self {
-            Shrinking::Judged(verdict) => {
-                let line = Line::Judged(verdict);
+            Shrinking::Judged(outcome) => {
+                let line = Line::Concluded(outcome);
                 write!(f, "{line}")
             }
             Shrinking::Shrunk(shrunk) => write!(f, "{shrunk}"),

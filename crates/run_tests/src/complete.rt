@@ -1,14 +1,15 @@
 //! Traces that are asked to be complete: each request has a reply at the end, or the first without one is told.
 
 use crate::streams::Pieces;
-use lf_verdict::Verdict;
-use run_engine::{Completion, Counted, run_complete};
+use lf_verdict::Outcome;
+use run_engine::{Counted, run_complete};
 use std::process::Abort;
 use std::test::Fail;
+use std::thread::Threads;
 use trace_samples::{C1, C1_TEXT, LOAD, LOAD_MISSES_BOTH_LEVELS, LOADED, trace_of};
 
 /// Fails where another line is written of these bytes, or another request is told to have no reply.
-fn assert_complete<T: Abort + AllocGlobal>(
+fn assert_complete<T: Abort + AllocGlobal + Threads + Sync + Send + Copy + 'static>(
     rt: &T,
     config: &str,
     bytes: &[u8],
@@ -19,17 +20,11 @@ fn assert_complete<T: Abort + AllocGlobal>(
     let mut writer = Counted::new(Vec::new(rt.alloc()));
     let answer = run_complete(rt, &mut reader, &mut writer, config, 1000);
     assert_eq!(rt; std::str::from_utf8(writer.inner()), Ok(line));
-    let Ok(
-        Completion {
-            verdict,
-            incomplete,
-        },
-    ) = answer
-    else {
+    let Ok(told) = answer else {
         return Err(Fail::new("no answer"));
     };
-    assert_eq!(rt; incomplete.map(|found| (found.port, found.tag)), waits);
-    assert!(rt; waits.is_none() || matches!(verdict, Verdict::Yes { .. }));
+    assert_eq!(rt; told.incomplete.map(|found| (found.port, found.tag)), waits);
+    assert!(rt; waits.is_none() || matches!(told.outcome, Outcome::Yes { .. }));
     Ok(())
 }
 

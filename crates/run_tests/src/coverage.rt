@@ -1,7 +1,8 @@
 //! The coverage that is written.
 
 use crate::streams::Pieces;
-use run_engine::{Counted, run_cover, run_cover_data};
+use run_engine::Counted;
+use run_report::{run_cover, run_cover_data};
 use std::test::Fail;
 use trace_samples::{C1_TEXT, LOAD_MISSES_BOTH_LEVELS};
 
@@ -26,6 +27,11 @@ bank=0 store_behind_load=0
 bank=0 store_behind_store=0
 bank=0 refetched=0
 bank=0 fill1_over_stores=0
+bank=0 evict1_under_supply=0
+bank=0 evict2_under_supply=0
+bank=0 evict2_of_same_set=0
+bank=0 evict2_beside_pinned=0
+bank=0 evict2_last_unpinned=0
 bank=0 evict2_dirty_0=0
 bank=0 evict2_dirty_1=0
 bank=0 targets_2=0
@@ -45,7 +51,7 @@ bank=0 fill2=1
 bank=0 registers_1=1
 port=0 load_8=1
 port=0 reply=1
-covered 7 of 38
+covered 7 of 43
 ";
 
 #[test]
@@ -65,9 +71,9 @@ C '\u{1}page\u{2}v_user/lockup_free\u{1}f\u{2}coverage/points.txt\
 \u{1}l\u{2}1\u{1}n\u{2}0\u{1}o\u{2}hit\u{1}h\u{2}bank0' 0
 ";
 
-const DATA_ENDS: &str = "\u{1}l\u{2}39\u{1}n\u{2}0\u{1}o\u{2}reply\u{1}h\u{2}port0' 1
+const DATA_ENDS: &str = "\u{1}l\u{2}47\u{1}n\u{2}0\u{1}o\u{2}reply\u{1}h\u{2}port0' 1
 C '\u{1}page\u{2}v_user/lockup_free\u{1}f\u{2}coverage/points.txt\
-\u{1}l\u{2}40\u{1}n\u{2}0\u{1}o\u{2}fence\u{1}h\u{2}port0' 0
+\u{1}l\u{2}48\u{1}n\u{2}0\u{1}o\u{2}fence\u{1}h\u{2}port0' 0
 ";
 
 #[test]

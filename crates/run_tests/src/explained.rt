@@ -1,13 +1,15 @@
 //! Why a verdict is what it is, as it is written.
 
 use crate::streams::Pieces;
-use run_engine::{Asked, Counted, run_explain};
+use run_engine::Counted;
+use run_report::{Asked, run_explain};
 use std::process::Abort;
 use std::test::Fail;
+use std::thread::Threads;
 use trace_samples::{C1_TEXT, LOAD_MISSES_BOTH_LEVELS};
 
 /// Fails where another text is written of the trace in these bytes.
-fn assert_written<T: Abort + AllocGlobal>(
+fn assert_written<T: Abort + AllocGlobal + Threads + Sync + Send + Copy + 'static>(
     rt: &T,
     bytes: &[u8],
     most: u16,

@@ -4,7 +4,7 @@ use count_usage::{BankUse, LevelUse, Usage};
 use explain_json::{Answer, Told, explained_json, refused_json};
 use explain_why::Why;
 use lf_rules::{Level, OrgShape, Shape};
-use lf_verdict::Verdict;
+use lf_verdict::Outcome;
 use std::process::Abort;
 use std::test::Fail;
 
@@ -30,13 +30,13 @@ const SHAPE: Shape = Shape {
 fn assert_answer<'a, T: Abort + AllocGlobal>(
     rt: &T,
     line: &'a str,
-    verdict: &'a Verdict,
+    outcome: &'a Outcome,
     why: &'a Why,
     due: &str,
 ) -> Result<(), Fail> {
     let answer = Answer {
         line,
-        verdict,
+        outcome,
         is_complete: !matches!(why, Why::NotComplete(_)),
         config: "",
         told: Some(Told {
@@ -54,8 +54,7 @@ fn assert_answer<'a, T: Abort + AllocGlobal>(
 
 #[test]
 fn use_of_a_legal_trace(rt: HostRuntime) -> Result<(), Fail> {
-    let order = Vec::from_slice(rt.alloc(), &[0, 1])?;
-    let verdict = Verdict::Yes { events: 2, order };
+    let outcome = Outcome::Yes { events: 2 };
     let used = BankUse {
         level1: LevelUse {
             ways: 1,
@@ -73,7 +72,7 @@ fn use_of_a_legal_trace(rt: HostRuntime) -> Result<(), Fail> {
 \"ways\":{\"granted\":2,\"used\":1}},\
 \"level2\":{\"registers\":null,\"targets\":null,\"ways\":{\"granted\":4,\"used\":0}}}],\
 \"ports\":[{\"tags\":{\"granted\":4,\"used\":3}}]},\"verdict\":\"yes\"}\n";
-    assert_answer(&rt, "yes events=2", &verdict, &why, due)
+    assert_answer(&rt, "yes events=2", &outcome, &why, due)
 }
 
 #[test]

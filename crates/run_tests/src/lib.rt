@@ -1,5 +1,5 @@
-//! Tests of `run_engine`, `run_stream` and `run_shrink`, and of what is told of a verdict, in a crate of their own so that
-//! each is proved once.
+//! Tests of `run_engine`, `run_stream` and `run_shrink`, and of what is told of a verdict, in a crate of their own so
+//! that each is proved once.
 #![tactic(auto)]
 
 #[cfg(test)]
@@ -40,7 +40,5 @@ mod told;
 mod traces;
 #[cfg(test)]
 mod watched;
-#[cfg(test)]
-mod why;
 #[cfg(test)]
 mod workers;

@@ -1,20 +1,29 @@
 //! Traces that are made smaller.
 
 use lf_rules::Rule;
-use lf_verdict::{Fault, Verdict};
+use lf_verdict::{Fault, Outcome};
 use run_engine::Counted;
 use run_shrink::{RuleFault, Shrinking, Shrunk, Silent, run_shrink};
 use std::test::Fail;
+use std::thread::Threads;
 use trace_samples::{C1, C1_TEXT, LOAD, LOAD_MISSES_BOTH_LEVELS, LOADED, trace_of};
 
 /// What a search of at most so many traces comes to.
-fn searched<T: AllocGlobal>(rt: &T, bytes: &[u8], most: u32) -> Result<Shrinking, Fail> {
+fn searched<T: AllocGlobal + Threads + Sync + Send + Copy + 'static>(
+    rt: &T,
+    bytes: &[u8],
+    most: u32,
+) -> Result<Shrinking, Fail> {
     let mut reader = Counted::new(bytes);
     run_shrink(rt, &mut reader, C1_TEXT, most, 1000, &Silent).map_err(|_| Fail::new("no answer"))
 }
 
 /// What was found, where the verdict names a rule.
-fn found<T: AllocGlobal>(rt: &T, bytes: &[u8], most: u32) -> Result<Shrunk, Fail> {
+fn found<T: AllocGlobal + Threads + Sync + Send + Copy + 'static>(
+    rt: &T,
+    bytes: &[u8],
+    most: u32,
+) -> Result<Shrunk, Fail> {
     match searched(rt, bytes, most)? {
         Shrinking::Shrunk(shrunk) => Ok(shrunk),
         Shrinking::Judged(_) => Err(Fail::new("no search")),
@@ -35,7 +44,7 @@ fn a_hit_without_a_line_needs_its_issue_alone(rt: HostRuntime) -> Result<(), Fai
 #[test]
 fn a_legal_trace_is_only_judged(rt: HostRuntime) -> Result<(), Fail> {
     let told = searched(&rt, &LOAD_MISSES_BOTH_LEVELS, 1000)?;
-    assert!(rt; matches!(told, Shrinking::Judged(Verdict::Yes { .. })));
+    assert!(rt; matches!(told, Shrinking::Judged(Outcome::Yes { .. })));
     Ok(())
 }
 

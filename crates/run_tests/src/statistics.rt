@@ -4,10 +4,15 @@ use crate::streams::Pieces;
 use run_engine::{Counted, run_stats};
 use std::process::Abort;
 use std::test::Fail;
+use std::thread::Threads;
 use trace_samples::{C1_TEXT, EMPTY_TRACE, LOAD_MISSES_BOTH_LEVELS};
 
 /// Fails where another text is written of these bytes.
-fn assert_written<T: Abort + AllocGlobal>(rt: &T, bytes: &[u8], text: &str) -> Result<(), Fail> {
+fn assert_written<T: Abort + AllocGlobal + Threads + Sync + Send + Copy + 'static>(
+    rt: &T,
+    bytes: &[u8],
+    text: &str,
+) -> Result<(), Fail> {
     let mut reader = Counted::new(Pieces::new(bytes, 50));
     let mut writer = Counted::new(Vec::new(rt.alloc()));
     let answer = run_stats(rt, &mut reader, &mut writer, C1_TEXT, 1000);

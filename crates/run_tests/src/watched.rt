@@ -2,21 +2,22 @@
 
 use crate::streams::Pieces;
 use lf_rules::Rule;
-use lf_verdict::{Broken, PartFault, Upon, Verdict};
-use run_engine::{Counted, Watched, run_watch};
+use lf_verdict::{Broken, Conclusion, Outcome, PartFault, Upon};
+use run_engine::{Counted, run_watch};
 use std::process::Abort;
 use std::test::Fail;
+use std::thread::Threads;
 use trace_samples::{C1_TEXT, LOAD_MISSES_BOTH_LEVELS};
 
 /// Fails where another line is written for the bytes, which are read in pieces of so many, or another number of reads
 /// is made.
-fn assert_watched<T: Abort + AllocGlobal>(
+fn assert_watched<T: Abort + AllocGlobal + Threads + Sync + Send + Copy + 'static>(
     rt: &T,
     bytes: &[u8],
     size: usize,
     line: &str,
     reads: u64,
-) -> Result<Watched, Fail> {
+) -> Result<Conclusion, Fail> {
     let mut reader = Counted::new(Pieces::new(bytes, size));
     let mut writer = Counted::new(Vec::new(rt.alloc()));
     let answer = run_watch(rt, &mut reader, &mut writer, C1_TEXT, 100_000);
@@ -29,7 +30,8 @@ fn assert_watched<T: Abort + AllocGlobal>(
 fn a_legal_trace_is_read_to_its_end(rt: HostRuntime) -> Result<(), Fail> {
     let bytes = &LOAD_MISSES_BOTH_LEVELS;
     let told = assert_watched(&rt, bytes, 1, "yes events=6\n", 133)?;
-    assert!(rt; matches!(told, Watched::Judged(Verdict::Yes { .. })));
+    assert!(rt; told.broken.is_none());
+    assert!(rt; matches!(told.outcome, Outcome::Yes { .. }));
     Ok(())
 }
 
@@ -47,7 +49,7 @@ fn nothing_is_read_behind_a_broken_record(rt: HostRuntime) -> Result<(), Fail> {
         };
         let (log, at, offset) = (0, 1, 104);
         let upon = Some(Upon { log, at, offset });
-        assert_eq!(rt; told, Watched::Broken(Broken::Part { fault, upon }));
+        assert_eq!(rt; told.broken, Some(Broken::Part { fault, upon }));
     }
     Ok(())
 }

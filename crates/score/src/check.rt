@@ -1,4 +1,4 @@
-//! `score check`: judges a trace and prints one line, or so for each trace of a list.
+//! `score check`: judges a trace and prints one line, or so for each of several traces.
 
 use crate::configuration::{bytes_at, bytes_within, text_in};
 use crate::ending::Ending;
@@ -21,20 +21,19 @@ fn judge<
     let mut reader = Counted::new(trace);
     let mut writer = Counted::new(writer);
     let answer = run_check(rt, &mut reader, &mut writer, config, workers, u32::MAX);
-    writer.inner().ending(Ending::of_answer(&answer))
+    writer.inner().ending(Ending::of_answer(&answer, false))
 }
 
 /// Judges with one worker, and asks whether each request has a reply.
-fn judge_complete<T: Eprint + AllocGlobal, R: Read + Drop, W: Write + Drop>(
-    rt: &T,
-    config: &str,
-    trace: R,
-    writer: Answer<'_, T, W>,
-) -> io::Result<Ending> {
+fn judge_complete<
+    T: Eprint + AllocGlobal + Threads + Sync + Send + Copy + 'static,
+    R: Read + Drop,
+    W: Write + Drop,
+>(rt: &T, config: &str, trace: R, writer: Answer<'_, T, W>) -> io::Result<Ending> {
     let mut reader = Counted::new(trace);
     let mut writer = Counted::new(writer);
     let answer = run_complete(rt, &mut reader, &mut writer, config, u32::MAX);
-    writer.inner().ending(Ending::of_completion(&answer))
+    writer.inner().ending(Ending::of_answer(&answer, true))
 }
 
 /// Judges the trace at this path.
@@ -52,10 +51,10 @@ where
     judge(rt, config, reader, answer, u32::from(options.workers))
 }
 
-/// Judges each trace that this text names. Nothing is told of progress, which would go over the name of the trace.
-fn check_each<
+/// Judges one of several traces. Nothing is told of progress, which would go over the name of the trace.
+fn check_named<
     T: Print + Eprint + Input + Files + AllocGlobal + Threads + Sync + Send + Copy + 'static,
->(rt: &T, config: &str, traces: &str, options: CheckOptions) -> io::Result<Ending>
+>(rt: &T, config: &str, trace: &str, options: CheckOptions) -> io::Result<Ending>
 where
     T::File: Drop,
 {
@@ -63,11 +62,35 @@ where
         progress: false,
         ..options
     };
+    print!(rt; "{trace}: ")?;
+    check_trace(rt, config, trace, options, false)
+}
+
+/// Judges each of these traces.
+fn check_each<
+    T: Print + Eprint + Input + Files + AllocGlobal + Threads + Sync + Send + Copy + 'static,
+>(rt: &T, config: &str, traces: &[&str], options: CheckOptions) -> io::Result<Ending>
+where
+    T::File: Drop,
+{
+    let mut ending = Ending::Done;
+    for trace in traces {
+        ending = ending.worse(check_named(rt, config, trace, options)?);
+    }
+    Ok(ending)
+}
+
+/// Judges each trace that this text names.
+fn check_lines<
+    T: Print + Eprint + Input + Files + AllocGlobal + Threads + Sync + Send + Copy + 'static,
+>(rt: &T, config: &str, traces: &str, options: CheckOptions) -> io::Result<Ending>
+where
+    T::File: Drop,
+{
     let mut ending = Ending::Done;
     for trace in traces.lines() {
         if !trace.is_empty() {
-            print!(rt; "{trace}: ")?;
-            ending = ending.worse(check_trace(rt, config, trace, options, false)?);
+            ending = ending.worse(check_named(rt, config, trace, options)?);
         }
     }
     Ok(ending)
@@ -82,7 +105,7 @@ where
 {
     let read = bytes_within(rt.alloc(), Trace::open(rt, list), u32::MAX);
     match text_in(&read) {
-        Ok(traces) => check_each(rt, config, traces, options),
+        Ok(traces) => check_lines(rt, config, traces, options),
         Err(InputFault::Memory) => refused(rt, InputFault::Memory),
         Err(_) => {
             println!(rt; "refused read list")?;
@@ -94,7 +117,13 @@ where
 /// Judges the workers before it opens a file, and the configuration before the trace is read.
 pub fn check<
     T: Print + Eprint + Input + Files + AllocGlobal + Threads + Sync + Send + Copy + 'static,
->(rt: &T, config: &str, trace: &str, options: CheckOptions, on_terminal: bool) -> io::Result<Ending>
+>(
+    rt: &T,
+    config: &str,
+    traces: &[&str],
+    options: CheckOptions,
+    on_terminal: bool,
+) -> io::Result<Ending>
 where
     T::File: Drop,
 {
@@ -108,8 +137,9 @@ where
         Ok(text) => text,
         Err(why) => return refused(rt, why),
     };
-    if options.list {
-        return check_list(rt, text, trace, options);
+    match traces {
+        [list] if options.list => check_list(rt, text, list, options),
+        [trace] => check_trace(rt, text, trace, options, on_terminal),
+        _ => check_each(rt, text, traces, options),
     }
-    check_trace(rt, text, trace, options, on_terminal)
 }

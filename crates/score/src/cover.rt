@@ -1,80 +1,94 @@
 //! `score cover`: judges a trace, and prints which situations one that is legal reached.
 
+ghost use Rattle.std.specs.Prelude.{IfOk};
+ghost use Rattle.lf_rules.specs.InRange.{IsShape};
+
 use crate::configuration::{bytes_at, bytes_within, text_in};
 use crate::ending::Ending;
 use crate::output::{put, refuse_write};
 use crate::progress::{Answer, clear, reader_of};
 use crate::refused;
-use lf_verdict::Verdict;
-use run_engine::{Counted, InputFault, Line, run_cover, run_cover_data, shape_for};
+use lf_rules::Shape;
+use lf_verdict::{Outcome, Refusal};
+use run_engine::{Counted, InputFault, Line, run_on, shape_for};
+use run_report::{Cover, CoverageForm};
 use std::io;
 use std::io::{ErrorKind, Read, Write};
 use std::rt::Files;
+use std::thread::Threads;
 
 /// Prints the lines of the coverage, or that of the verdict.
-fn print_cover<T: Eprint + AllocGlobal, R: Read + Drop, W: Write + Drop>(
-    rt: &T,
-    text: &str,
-    trace: R,
-    writer: Answer<'_, T, W>,
-) -> io::Result<Ending> {
+fn print_cover<
+    T: Eprint + AllocGlobal + Threads + Sync + Send + Copy + 'static,
+    R: Read + Drop,
+    W: Write + Drop,
+>(rt: &T, found: Result<Shape, Refusal>, trace: R, writer: Answer<'_, T, W>) -> io::Result<Ending>
+    requires { IfOk found IsShape }
+{
     let mut reader = Counted::new(trace);
     let mut writer = Counted::new(writer);
-    let answer = run_cover(rt, &mut reader, &mut writer, text, u32::MAX);
-    writer.inner().ending(Ending::of_answer(&answer))
+    let ask = Cover {
+        form: CoverageForm::Lines,
+    };
+    let answer = run_on(rt, &mut reader, &mut writer, found, 1, &ask, u32::MAX);
+    writer.inner().ending(Ending::of_answer(&answer, false))
 }
 
-fn tell_verdict<T: Print>(rt: &T, verdict: &Verdict) -> io::Result<Ending> {
-    let line = Line::Judged(verdict);
+fn tell_outcome<T: Print>(rt: &T, outcome: &Outcome) -> io::Result<Ending> {
+    let line = Line::Concluded(outcome);
     println!(rt; "{line}")?;
-    Ok(Ending::of(verdict))
+    Ok(Ending::of(outcome))
 }
 
 /// Writes Verilator's file of a trace that is legal, and only then prints the lines.
-fn write_cover<T: Print + Eprint + Files + AllocGlobal>(
+fn write_cover<T: Print + Eprint + Files + AllocGlobal + Threads + Sync + Send + Copy + 'static>(
     rt: &T,
-    text: &str,
+    shape: &Shape,
     trace: &[u8],
     dat: &str,
 ) -> io::Result<Ending>
 where
     T::File: Drop,
+    requires { IsShape shape.now }
 {
     let mut reader = Counted::new(trace);
     let mut writer = Counted::new(Vec::new(rt.alloc()));
-    let Ok(verdict) = run_cover_data(rt, &mut reader, &mut writer, text, u32::MAX) else {
+    let ask = Cover {
+        form: CoverageForm::Data,
+    };
+    let answer = run_on(rt, &mut reader, &mut writer, Ok(*shape), 1, &ask, u32::MAX);
+    let Ok(conclusion) = answer else {
         return refused(rt, InputFault::Memory);
     };
-    if !matches!(&verdict, Verdict::Yes { .. }) {
-        return tell_verdict(rt, &verdict);
+    if !matches!(&conclusion.outcome, Outcome::Yes { .. }) {
+        return tell_outcome(rt, &conclusion.outcome);
     }
     if let Err(why) = put(rt, dat, writer.inner().as_slice()) {
         return refuse_write(rt, dat, why);
     }
-    print_cover(rt, text, trace, Answer::new(rt, io::writer(rt), false))
+    print_cover(
+        rt,
+        Ok(*shape),
+        trace,
+        Answer::new(rt, io::writer(rt), false),
+    )
 }
 
-/// Keeps the trace, since it is read twice. The configuration is judged before. `clears` says whether the terminal
-/// shows how far the reading is.
-fn keep_and_write<T: Print + Eprint + Files + AllocGlobal, R: Read + Drop>(
-    rt: &T,
-    text: &str,
-    trace: R,
-    dat: &str,
-    clears: bool,
-) -> io::Result<Ending>
+/// Keeps the trace, since it is read twice. `clears` says whether the terminal shows how far the reading is.
+fn keep_and_write<
+    T: Print + Eprint + Files + AllocGlobal + Threads + Sync + Send + Copy + 'static,
+    R: Read + Drop,
+>(rt: &T, shape: &Shape, trace: R, dat: &str, clears: bool) -> io::Result<Ending>
 where
     T::File: Drop,
+    requires { IsShape shape.now }
 {
-    if let Err(refusal) = shape_for(rt.alloc(), text, 1) {
-        return tell_verdict(rt, &Verdict::Refused(refusal));
-    }
     let kept = bytes_within(rt.alloc(), trace, u32::MAX);
     if clears {
         clear(rt);
     }
     match kept {
-        Ok(kept) => write_cover(rt, text, kept.as_slice(), dat),
+        Ok(kept) => write_cover(rt, shape, kept.as_slice(), dat),
         Err(e) if e.kind() == ErrorKind::OutOfMemory => refused(rt, InputFault::Memory),
         Err(_) => {
             println!(rt; "refused read trace")?;
@@ -84,7 +98,9 @@ where
 }
 
 /// Judges the configuration before the trace is read. `dat` is the file to write for Verilator, where there is one.
-pub fn cover<T: Print + Eprint + Input + Files + AllocGlobal>(
+pub fn cover<
+    T: Print + Eprint + Input + Files + AllocGlobal + Threads + Sync + Send + Copy + 'static,
+>(
     rt: &T,
     config: &str,
     trace: &str,
@@ -102,8 +118,12 @@ where
     };
     let clears = progress && on_terminal;
     let reader = reader_of(rt, trace, progress, on_terminal);
-    match dat {
-        Some(dat) => keep_and_write(rt, text, reader, dat, clears),
-        None => print_cover(rt, text, reader, Answer::new(rt, io::writer(rt), clears)),
+    let found = shape_for(rt.alloc(), text, 1);
+    let Some(dat) = dat else {
+        return print_cover(rt, found, reader, Answer::new(rt, io::writer(rt), clears));
+    };
+    match found {
+        Ok(shape) => keep_and_write(rt, &shape, reader, dat, clears),
+        Err(refusal) => tell_outcome(rt, &Outcome::Refused(refusal)),
     }
 }

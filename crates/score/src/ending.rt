@@ -1,7 +1,7 @@
 //! How a command ends.
 
-use lf_verdict::Verdict;
-use run_engine::{Completion, RunFault};
+use lf_verdict::{Conclusion, Outcome};
+use run_engine::RunFault;
 use std::io;
 use std::process::ExitCode;
 
@@ -21,26 +21,19 @@ pub enum Ending {
 }
 
 impl Ending {
-    pub fn of(verdict: &Verdict) -> Ending {
-        match verdict {
-            Verdict::Yes { .. } => Ending::Done,
-            Verdict::No(_) => Ending::No,
-            Verdict::Refused(_) => Ending::Refused,
+    pub fn of(outcome: &Outcome) -> Ending {
+        match outcome {
+            Outcome::Yes { .. } => Ending::Done,
+            Outcome::No(_) => Ending::No,
+            Outcome::Refused(_) => Ending::Refused,
         }
     }
 
-    pub fn of_answer(answer: &Result<Verdict, RunFault>) -> Ending {
+    /// Where complete traces are asked for, a request without a reply is a no.
+    pub fn of_answer(answer: &Result<Conclusion, RunFault>, complete: bool) -> Ending {
         match answer {
-            Ok(verdict) => Ending::of(verdict),
-            Err(_) => Ending::Refused,
-        }
-    }
-
-    /// A request without a reply is a no.
-    pub fn of_completion(answer: &Result<Completion, RunFault>) -> Ending {
-        match answer {
-            Ok(completion) if completion.incomplete.is_some() => Ending::No,
-            Ok(completion) => Ending::of(&completion.verdict),
+            Ok(conclusion) if complete && conclusion.incomplete.is_some() => Ending::No,
+            Ok(conclusion) => Ending::of(&conclusion.outcome),
             Err(_) => Ending::Refused,
         }
     }

@@ -6,20 +6,24 @@ use crate::map::times_if;
 use crate::progress::{Answer, reader_of};
 use command_line::ExplainOptions;
 use explain_json::{no_memory_json, refused_json};
-use explain_refusal::ConfigRefusal;
+use explain_refusal::{ConfigRefusal, toml_fault};
 use lf_rules::NoMemory;
-use lf_verdict::{Refusal, Verdict};
-use run_engine::{Asked, Counted, run_explain, run_explain_json};
+use lf_verdict::{Outcome, Refusal};
+use run_engine::Counted;
+use run_report::{Asked, run_explain, run_explain_json};
 use std::alloc::Global;
 use std::rt::Files;
+use std::thread::Threads;
 use std::{fmt, io};
 
-/// Tells what the key of a configuration that is refused may have.
-fn tell_config<T: Print>(rt: &T, verdict: &Verdict, text: &str) -> io::Result<()> {
-    let Verdict::Refused(Refusal::Config(fault)) = verdict else {
+/// Tells what the key of a configuration that is refused may have, or where the text stops to be TOML. The place is
+/// left out where memory runs out.
+fn tell_config<T: Print + AllocGlobal>(rt: &T, outcome: &Outcome, text: &str) -> io::Result<()> {
+    let Outcome::Refused(Refusal::Config(fault)) = outcome else {
         return Ok(());
     };
-    let why = ConfigRefusal { text, fault };
+    let stop = &toml_fault(rt.alloc(), text).unwrap_or(None);
+    let why = ConfigRefusal { text, fault, stop };
     print!(rt; "\n{why}")
 }
 
@@ -49,7 +53,9 @@ fn not_judged<T: Print + AllocGlobal, D: fmt::Display>(
 }
 
 /// Judges the configuration and reads the map before the trace is read.
-pub fn explain<T: Print + Eprint + Input + Files + AllocGlobal>(
+pub fn explain<
+    T: Print + Eprint + Input + Files + AllocGlobal + Threads + Sync + Send + Copy + 'static,
+>(
     rt: &T,
     config: &str,
     trace: &str,
@@ -78,11 +84,15 @@ where
     let mut writer = Counted::new(answer);
     if options.json {
         let answer = run_explain_json(rt, &mut reader, &mut writer, text, &asked, u32::MAX);
-        return writer.inner().ending(Ending::of_completion(&answer));
+        return writer
+            .inner()
+            .ending(Ending::of_answer(&answer, asked.complete));
     }
     let answer = run_explain(rt, &mut reader, &mut writer, text, &asked, u32::MAX);
-    if let Ok(completion) = &answer {
-        tell_config(rt, &completion.verdict, text)?;
+    if let Ok(conclusion) = &answer {
+        tell_config(rt, &conclusion.outcome, text)?;
     }
-    writer.inner().ending(Ending::of_completion(&answer))
+    writer
+        .inner()
+        .ending(Ending::of_answer(&answer, asked.complete))
 }

@@ -72,16 +72,16 @@ fn words_of<T: Env + AllocGlobal>(rt: &T) -> Result<Vec<String>, InputFault> {
 /// Does what was asked for. `on_terminal` says whether standard error is a terminal.
 fn answer<
     T: Print + Eprint + Input + Files + AllocGlobal + Threads + Wait + Sync + Send + Copy + 'static,
->(rt: &T, request: Request<'_>, on_terminal: bool) -> io::Result<Ending>
+>(rt: &T, request: &Request<'_>, on_terminal: bool) -> io::Result<Ending>
 where
     T::File: Drop,
 {
-    match request {
+    match *request {
         Request::Check {
             config,
-            trace,
+            ref traces,
             options,
-        } => check(rt, config, trace, options, on_terminal),
+        } => check(rt, config, traces, options, on_terminal),
         Request::Stats {
             config,
             trace,
@@ -124,7 +124,7 @@ fn answer_and_hint<
 where
     T::File: Drop,
 {
-    let ending = answer(rt, request, on_terminal)?;
+    let ending = answer(rt, &request, on_terminal)?;
     if on_terminal {
         hint(rt, &request, &ending)?;
     }

@@ -8,6 +8,7 @@ use run_engine::{Counted, Line};
 use run_shrink::{Observer, Shrinking, Shrunk, run_shrink};
 use std::io;
 use std::rt::Files;
+use std::thread::Threads;
 
 /// Shows on standard error how far the search is, where that is a terminal: one line, written over and over.
 #[derive(Clone, Copy)]
@@ -50,7 +51,9 @@ where
 }
 
 /// Judges the configuration before the trace is read, and writes nothing where there is nothing to search for.
-pub fn shrink<T: Print + Eprint + Input + Files + AllocGlobal>(
+pub fn shrink<
+    T: Print + Eprint + Input + Files + AllocGlobal + Threads + Sync + Send + Copy + 'static,
+>(
     rt: &T,
     config: &str,
     trace: &str,
@@ -72,9 +75,9 @@ where
     line.end();
     match outcome {
         Ok(Shrinking::Shrunk(shrunk)) => hand_out(rt, out, &shrunk),
-        Ok(Shrinking::Judged(verdict)) => {
-            tell(rt, out, Line::Judged(&verdict))?;
-            Ok(Ending::of(&verdict))
+        Ok(Shrinking::Judged(outcome)) => {
+            tell(rt, out, Line::Concluded(&outcome))?;
+            Ok(Ending::of(&outcome))
         }
         Err(_) => refuse(rt, out, "refused read trace"),
     }

@@ -4,18 +4,15 @@ use crate::configuration::{bytes_at, text_in};
 use crate::ending::Ending;
 use crate::progress::{Answer, reader_of};
 use crate::refused;
-use run_engine::{Counted, run_stats};
+use run_engine::{Counted, Statistics, run_for};
 use std::io;
 use std::rt::Files;
+use std::thread::Threads;
 
 /// Judges the configuration before the trace is read.
-pub fn stats<T: Print + Eprint + Input + Files + AllocGlobal>(
-    rt: &T,
-    config: &str,
-    trace: &str,
-    progress: bool,
-    on_terminal: bool,
-) -> io::Result<Ending>
+pub fn stats<
+    T: Print + Eprint + Input + Files + AllocGlobal + Threads + Sync + Send + Copy + 'static,
+>(rt: &T, config: &str, trace: &str, progress: bool, on_terminal: bool) -> io::Result<Ending>
 where
     T::File: Drop,
 {
@@ -26,6 +23,7 @@ where
     };
     let mut reader = Counted::new(reader_of(rt, trace, progress, on_terminal));
     let mut writer = Counted::new(Answer::new(rt, io::writer(rt), progress && on_terminal));
-    let answer = run_stats(rt, &mut reader, &mut writer, text, u32::MAX);
-    writer.inner().ending(Ending::of_answer(&answer))
+    let ask = Statistics { ordered: false };
+    let answer = run_for(rt, &mut reader, &mut writer, text, 1, &ask, u32::MAX);
+    writer.inner().ending(Ending::of_answer(&answer, false))
 }

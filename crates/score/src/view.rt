@@ -13,13 +13,13 @@ use crate::trace::{Trace, size_of_file};
 use command_line::{ViewOptions, Window};
 use explain_lines::Times;
 use lf_rules::{Rule, Shape};
-use lf_verdict::{Fault, Verdict};
-use run_engine::{Counted, InputFault, Line, run_shape, shape_for};
-use std::alloc::{AllocError, Global};
+use lf_verdict::{Conclusion, Fault, Outcome};
+use run_engine::{Counted, InputFault, Judged, Line, Needs, judge, shape_for};
+use std::alloc::AllocError;
+use std::io;
 use std::io::{ErrorKind, Read, Write};
 use std::rt::Files;
 use std::thread::Threads;
-use std::{io, mem};
 use wave_draw::{Drawing, Sought, ViewFault, place_of, view as draw};
 use wave_signals::{Marker, SaveFile, View};
 
@@ -56,17 +56,17 @@ struct Readers<R> {
     shown: R,
 }
 
-/// The record that the verdict names, and its rule.
-fn sought_in(verdict: &Verdict) -> Option<(Sought, Rule)> {
-    match verdict {
-        Verdict::No(Fault::Port { port, at, rule }) => Some((
+/// The record that the outcome names, and its rule.
+fn sought_in(outcome: &Outcome) -> Option<(Sought, Rule)> {
+    match outcome {
+        Outcome::No(Fault::Port { port, at, rule }) => Some((
             Sought::InLog {
                 log: *port,
                 at: *at,
             },
             *rule,
         )),
-        Verdict::No(Fault::Bank { bank, number, rule }) => Some((
+        Outcome::No(Fault::Bank { bank, number, rule }) => Some((
             Sought::InBank {
                 bank: *bank,
                 number: *number,
@@ -77,21 +77,13 @@ fn sought_in(verdict: &Verdict) -> Option<(Sought, Rule)> {
     }
 }
 
-/// Takes the order of a yes out of the verdict.
-fn take_order(alloc: Global, verdict: &mut Verdict) -> Option<Vec<u8>> {
-    match verdict {
-        Verdict::Yes { order, .. } => Some(mem::replace(order, Vec::new(alloc))),
-        _ => None,
-    }
-}
-
-/// Finds the record that the verdict names, so that it can be marked.
+/// Finds the record that the outcome names, so that it can be marked.
 fn marker_of<T: AllocGlobal, R: Read + Drop>(
     rt: &T,
-    verdict: &Verdict,
+    outcome: &Outcome,
     reader: R,
 ) -> Result<Option<Marker>, ViewFault> {
-    let Some((sought, rule)) = sought_in(verdict) else {
+    let Some((sought, rule)) = sought_in(outcome) else {
         return Ok(None);
     };
     let mut reader = Counted::new(reader);
@@ -190,7 +182,7 @@ fn hand_out<T: Print + Eprint + Files + AllocGlobal, R: Read + Drop>(
     rt: &T,
     shape: &Shape,
     output: Output<'_>,
-    mut verdict: Verdict,
+    conclusion: Conclusion,
     searched: R,
     shown: R,
 ) -> io::Result<Ending>
@@ -203,7 +195,8 @@ where
         times,
         clears,
     } = output;
-    let found = marker_of(rt, &verdict, searched);
+    let Conclusion { outcome, order, .. } = conclusion;
+    let found = marker_of(rt, &outcome, searched);
     if clears {
         clear(rt);
     }
@@ -214,7 +207,7 @@ where
     let drawing = Drawing {
         view: view_in(window, shape, marker),
         times,
-        order: take_order(rt.alloc(), &mut verdict),
+        order,
     };
     let written = put_wave(rt, out, drawing, shape, shown);
     if clears {
@@ -223,8 +216,8 @@ where
     if let Err(why) = written {
         return refuse_write(rt, out, why);
     }
-    tell(rt, out, Line::Judged(&verdict))?;
-    Ok(Ending::of(&verdict))
+    tell(rt, out, Line::Concluded(&outcome))?;
+    Ok(Ending::of(&outcome))
 }
 
 /// Judges the trace, and shows one that has a yes or a no.
@@ -243,14 +236,15 @@ where
         shown,
     } = readers;
     let mut reader = Counted::new(judged);
-    let mut nowhere = Counted::new(io::sink());
-    let judged = run_shape(rt, &mut reader, &mut nowhere, shape, 1, u32::MAX);
+    let judged = judge(rt, &mut reader, shape, 1, Needs::verdict(true), u32::MAX);
     if output.clears {
         clear(rt);
     }
     match judged {
-        Ok(verdict @ Verdict::Refused(_)) => refuse(rt, out, Line::Judged(&verdict)),
-        Ok(verdict) => hand_out(rt, shape, output, verdict, searched, shown),
+        Ok(Judged { conclusion, .. }) => match &conclusion.outcome {
+            Outcome::Refused(_) => refuse(rt, out, Line::Concluded(&conclusion.outcome)),
+            _ => hand_out(rt, shape, output, conclusion, searched, shown),
+        },
         Err(_) => refuse_read(rt, out, ViewFault::Read),
     }
 }
@@ -312,8 +306,8 @@ where
     let shape = match shape_for(rt.alloc(), text, 1) {
         Ok(shape) => shape,
         Err(refusal) => {
-            let verdict = Verdict::Refused(refusal);
-            return refuse(rt, out, Line::Judged(&verdict));
+            let outcome = Outcome::Refused(refusal);
+            return refuse(rt, out, Line::Concluded(&outcome));
         }
     };
     let output = Output {

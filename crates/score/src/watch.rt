@@ -5,25 +5,27 @@ use crate::ending::Ending;
 use crate::progress::Answer;
 use crate::refused;
 use crate::trace::Trace;
-use lf_verdict::Broken;
-use run_engine::{Counted, RunFault, Watched, run_watch};
+use lf_verdict::{Broken, Conclusion};
+use run_engine::{Counted, RunFault, run_watch, watched};
 use std::io;
 use std::rt::Files;
+use std::thread::Threads;
 
-fn ending_of(answer: Result<Watched, RunFault>) -> Ending {
-    match answer {
-        Ok(Watched::Judged(verdict)) => Ending::of(&verdict),
-        Ok(Watched::Broken(Broken::Part { .. })) => Ending::No,
-        Ok(Watched::Broken(Broken::Header(_))) | Err(_) => Ending::Refused,
+fn ending_of(answer: Result<Conclusion, RunFault>) -> Ending {
+    let Ok(conclusion) = answer else {
+        return Ending::Refused;
+    };
+    match watched(&conclusion.outcome, conclusion.broken) {
+        Some(Broken::Part { .. }) => Ending::No,
+        Some(Broken::Header(_)) => Ending::Refused,
+        None => Ending::of(&conclusion.outcome),
     }
 }
 
 /// Judges the configuration before the trace is read.
-pub fn watch<T: Print + Eprint + Input + Files + AllocGlobal>(
-    rt: &T,
-    config: &str,
-    trace: &str,
-) -> io::Result<Ending>
+pub fn watch<
+    T: Print + Eprint + Input + Files + AllocGlobal + Threads + Sync + Send + Copy + 'static,
+>(rt: &T, config: &str, trace: &str) -> io::Result<Ending>
 where
     T::File: Drop,
 {

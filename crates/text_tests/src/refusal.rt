@@ -1,9 +1,10 @@
 //! Refusals, with their texts written out.
 
-use explain_refusal::{ConfigRefusal, FormatRefusal, HeaderRefusal};
+use explain_refusal::{ConfigRefusal, FormatRefusal, HeaderRefusal, toml_fault};
 use lf_codec::{CodecCause, CodecFault, Header};
 use lf_config::{ConfigFault, Key, LevelKey, Part};
 use lf_rules::{Level, OrgShape, Shape};
+use std::alloc::Global;
 use std::process::Abort;
 use std::test::Fail;
 
@@ -102,18 +103,88 @@ ways = 17
 ways = 3
 ";
 
+/// What is told of a fault of the text.
+fn told(alloc: Global, text: &str, fault: &ConfigFault) -> Result<String, Fail> {
+    let stop = toml_fault(alloc, text)?;
+    let refusal = ConfigRefusal {
+        text,
+        fault,
+        stop: &stop,
+    };
+    Ok(format!(in alloc; "{refusal}")?)
+}
+
 #[test]
 fn key_of_a_configuration(rt: HostRuntime) -> Result<(), Fail> {
     let fault = ConfigFault::Range(Key::Of(LevelKey::Two, Part::Ways));
-    let refusal = ConfigRefusal {
-        text: CONFIG,
-        fault: &fault,
-    };
-    let text = format!(in rt.alloc(); "{refusal}")?;
     let due = "\
 level2.ways has a value that it may not have; it is a whole number from 1 to 16
   line 5: ways = 17
 ";
-    assert_eq!(rt; text.as_str(), due);
+    assert_eq!(rt; told(rt.alloc(), CONFIG, &fault)?.as_str(), due);
+    Ok(())
+}
+
+const QUOTED: &str = "\
+ports = 1
+\"banks\" = 17
+";
+
+const DOTTED: &str = "\
+level1.sets = 1
+level1 . 'ways' = 17
+";
+
+const INLINE: &str = "\
+level2 = { ways = 1 }
+level1 = { sets = 1, ways = 17 }
+";
+
+const OTHER_TABLE: &str = "\
+ports = 1
+[ level3 ] # no such level
+";
+
+#[test]
+fn keys_in_other_forms(rt: HostRuntime) -> Result<(), Fail> {
+    let ways = ConfigFault::Range(Key::Of(LevelKey::One, Part::Ways));
+    let level3 = ConfigFault::Unknown(String::from_str(rt.alloc(), "level3")?);
+    let told = [
+        told(rt.alloc(), QUOTED, &ConfigFault::Range(Key::Banks))?,
+        told(rt.alloc(), DOTTED, &ways)?,
+        told(rt.alloc(), INLINE, &ways)?,
+        told(rt.alloc(), OTHER_TABLE, &level3)?,
+    ];
+    let due = [
+        "  line 2: \"banks\" = 17\n",
+        "  line 2: level1 . 'ways' = 17\n",
+        "  line 2: level1 = { sets = 1, ways = 17 }\n",
+        "  line 2: [ level3 ] # no such level\n",
+    ];
+    for (told, due) in told.iter().zip(due) {
+        assert!(rt; told.ends_with(due));
+    }
+    Ok(())
+}
+
+#[test]
+fn texts_that_are_no_toml(rt: HostRuntime) -> Result<(), Fail> {
+    let told = [
+        told(rt.alloc(), "ports = 1\nbanks 1\n", &ConfigFault::NotToml)?,
+        told(rt.alloc(), "tags = 4\n\ntags = 4\n", &ConfigFault::NotToml)?,
+        told(
+            rt.alloc(),
+            "tags = 99999999999999999999",
+            &ConfigFault::NotToml,
+        )?,
+    ];
+    let due = [
+        "the text is no TOML document: key with no value, expected `=`\n  line 2, column 7: banks 1\n",
+        "the text is no TOML document: duplicate key\n  line 3, column 1: tags = 4\n",
+        "the text is no TOML document: number out of range\n  line 1, column 8: tags = 99999999999999999999\n",
+    ];
+    for (told, due) in told.iter().zip(due) {
+        assert_eq!(rt; told.as_str(), due);
+    }
     Ok(())
 }

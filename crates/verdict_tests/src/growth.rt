@@ -5,7 +5,9 @@
 use crate::examples::cycle_of;
 use lf_codec::Told;
 use lf_rules::Rule;
-use lf_verdict::{Fault, NoGate, ParallelSession, Refusal, Session, Verdict, check};
+use lf_verdict::{
+    Asked, Fault, HeaderField, NoGate, Outcome, ParallelSession, Refusal, Session, Verdict, check,
+};
 use std::process::Abort;
 use std::sync::Wait;
 use std::test::Fail;
@@ -35,6 +37,13 @@ impl Due<'_> {
         }
     }
 }
+
+/// A trace of two ports that has two memory records and no event.
+const MEMORY_OF_TWO_PORTS: [u8; 48] = [
+    0x4c, 0x46, 0x54, 0x53, 0x01, 0x00, 0x02, 0x01, 0x08, 0x00, 0x00, 0x00, 0x02, 0x00, 0x00, 0x00,
+    0x00, 0x00, 0x00, 0x00, 0xaa, 0x00, 0x00, 0x00, 0x00, 0x00, 0x00, 0x00, 0x01, 0x00, 0x00, 0x00,
+    0xbb, 0x00, 0x00, 0x00, 0x00, 0x00, 0x00, 0x00, 0x00, 0x00, 0x00, 0x00, 0x00, 0x00, 0x00, 0x00,
+];
 
 const MISSES_BOTH_LEVELS: Due<'_> = Due::Yes(&[0, 1, 1, 1, 1, 0]);
 
@@ -150,23 +159,39 @@ fn refused_growth_of_session_on_cycle_of_two_logs(rt: HostRuntime) -> Result<(),
     assert_fed(&rt, config, &[&CYCLE_OF_TWO_LOGS], &two_logs())
 }
 
+#[test]
+fn refused_growth_of_session_on_memory_of_another_hierarchy(rt: HostRuntime) -> Result<(), Fail> {
+    let (front, back) = MEMORY_OF_TWO_PORTS.split_at(30);
+    let due = Due::Other(Verdict::Refused(Refusal::Header(HeaderField::Ports)));
+    assert_fed(&rt, C1_TEXT, &[front, back], &due)
+}
+
 /// By a session with four workers, in pieces of which each has as many records as are judged at a time.
 #[test]
 fn refused_growth_of_session_by_four_workers(rt: HostRuntime) -> Result<(), Fail> {
     let bytes = hits_and(rt.alloc(), 60, HIT)?;
-    let mut session = ParallelSession::in_batches(rt.alloc(), &C1, 4, 40, NoGate, true);
+    let asked = Asked {
+        ordered: true,
+        watched: false,
+        counted: false,
+    };
+    let mut session = ParallelSession::in_batches(rt.alloc(), &C1, 4, 40, NoGate, asked);
     for piece in bytes.chunks(1024) {
         if let Err(told) = session.feed(&rt, piece) {
             assert_eq!(rt; told, Told::Fault(Refusal::Memory));
-            assert_eq!(rt; session.finish(&rt), Verdict::Refused(Refusal::Memory));
+            assert_eq!(rt;
+                session.conclude(&rt).outcome,
+                Outcome::Refused(Refusal::Memory)
+            );
             return Err(memory_ran_out());
         }
     }
-    match session.finish(&rt) {
-        Verdict::Yes { events, .. } => {
-            assert_eq!(rt; events, 189);
+    match session.conclude(&rt).outcome {
+        Outcome::Refused(Refusal::Memory) => Err(memory_ran_out()),
+        Outcome::Refused(Refusal::Thread) => Err(thread_refused()),
+        outcome => {
+            assert_eq!(rt; outcome, Outcome::Yes { events: 189 });
             Ok(())
         }
-        other => assert_due(&rt, &other, &Due::Yes(&[])),
     }
 }

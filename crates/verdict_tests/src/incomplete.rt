@@ -1,6 +1,6 @@
 //! Which request has no reply where a session ends.
 
-use lf_verdict::{Incomplete, Session, Verdict};
+use lf_verdict::{Incomplete, Outcome, Session};
 use std::test::Fail;
 use trace_samples::{C1, LOAD, LOADED, trace_of};
 
@@ -10,7 +10,7 @@ fn the_lowest_tag_without_a_reply(rt: HostRuntime) -> Result<(), Fail> {
     let mut session = Session::for_shape(rt.alloc(), &C1);
     let _ = session.feed(&bytes);
     let end = session.conclude();
-    assert!(rt; matches!(&end.verdict, Verdict::Yes { .. }));
+    assert!(rt; matches!(&end.outcome, Outcome::Yes { .. }));
     let found = Some(Incomplete { port: 0, tag: 1 });
     assert_eq!(rt; end.incomplete, found);
     Ok(())

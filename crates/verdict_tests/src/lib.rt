@@ -2,6 +2,8 @@
 #![tactic(auto)]
 
 #[cfg(test)]
+mod asked;
+#[cfg(test)]
 mod broken;
 #[cfg(test)]
 mod configurations;
@@ -19,8 +21,6 @@ mod later_versions;
 mod several_workers;
 #[cfg(test)]
 mod statistics;
-#[cfg(test)]
-mod unordered;
 #[cfg(test)]
 mod verdicts;
 #[cfg(test)]

@@ -3,7 +3,7 @@
 ghost use Rattle.lf_rules.specs.InRange.{IsShape};
 
 use lf_rules::{Rule, Shape};
-use lf_verdict::{Broken, Gate, NoGate, ParallelSession, PartFault, Verdict};
+use lf_verdict::{Asked, Broken, Conclusion, Gate, NoGate, Outcome, ParallelSession, PartFault};
 use std::process::Abort;
 use std::sync::atomic::{AtomicU64, Ordering};
 use std::test::Fail;
@@ -17,66 +17,71 @@ const PIECE: usize = 2048;
 /// So few records are judged at a time that a thread is lent some after each piece.
 const BATCH: usize = 64;
 
+const ORDERED: Asked = Asked {
+    ordered: true,
+    watched: false,
+    counted: false,
+};
+
 /// The answer of a session with so many workers.
 fn by_workers<T: AllocGlobal + Threads + Sync + Send + Copy + 'static>(
     rt: &T,
     shape: &Shape,
     bytes: &[u8],
     workers: u32,
-) -> Verdict
+) -> Conclusion
     requires { IsShape shape.now }
 {
-    let mut session = ParallelSession::in_batches(rt.alloc(), shape, workers, BATCH, NoGate, true);
+    let alloc = rt.alloc();
+    let mut session = ParallelSession::in_batches(alloc, shape, workers, BATCH, NoGate, ORDERED);
     for piece in bytes.chunks(PIECE) {
         let _ = session.feed(rt, piece);
     }
-    session.finish(rt)
+    session.conclude(rt)
 }
 
 #[test]
 fn legal_by_several_workers(rt: HostRuntime) -> Result<(), Fail> {
     let bytes = hits_and(rt.alloc(), 300, HIT)?;
     for workers in [1u32, 2, 4, 16] {
-        match by_workers(&rt, &C1, &bytes, workers) {
-            Verdict::Yes { events, order } => {
-                assert_eq!(rt; events, 909);
-                assert_eq!(rt; order.len(), 909);
-            }
-            _ => return Err(Fail::from("no yes")),
-        }
+        let end = by_workers(&rt, &C1, &bytes, workers);
+        assert_eq!(rt; end.outcome, Outcome::Yes { events: 909 });
+        let places = end.order.map_or(0, |order: Vec<u8>| order.len());
+        assert_eq!(rt; places, 909);
     }
     Ok(())
 }
 
-/// What is told by so many workers, which judge so many records at a time, after the last piece, and then the verdict.
+/// What is told by so many workers, which judge so many records at a time, after the last piece, and then the outcome.
 fn broken_by<T: AllocGlobal + Threads + Sync + Send + Copy + 'static>(
     rt: &T,
     bytes: &[u8],
     workers: u32,
     batch: usize,
-) -> (Option<Broken>, Verdict) {
-    let mut session = ParallelSession::in_batches(rt.alloc(), &C1, workers, batch, NoGate, true);
+) -> (Option<Broken>, Outcome) {
+    let alloc = rt.alloc();
+    let mut session = ParallelSession::in_batches(alloc, &C1, workers, batch, NoGate, ORDERED);
     let mut broken = None;
     for piece in bytes.chunks(PIECE) {
         let _ = session.feed(rt, piece);
         broken = session.broken(rt);
     }
-    (broken, session.finish(rt))
+    (broken, session.conclude(rt).outcome)
 }
 
-/// Fails where workers tell something else, or come to another verdict, whatever records they judge at a time. A piece
+/// Fails where workers tell something else, or come to another outcome, whatever records they judge at a time. A piece
 /// has fewer than 200, so with 200 they are judged once it is asked what broke.
 fn assert_broken_by<T: Abort + AllocGlobal + Threads + Sync + Send + Copy + 'static>(
     rt: &T,
     bytes: &[u8],
     due: Option<Broken>,
 ) -> Result<(), Fail> {
-    let verdict = by_workers(rt, &C1, bytes, 1);
+    let outcome = by_workers(rt, &C1, bytes, 1).outcome;
     for workers in [1u32, 2, 4] {
         for batch in [1usize, BATCH, 200] {
             let (broken, answer) = broken_by(rt, bytes, workers, batch);
             assert_eq!(rt; broken, due);
-            assert_eq!(rt; answer, verdict);
+            assert_eq!(rt; answer, outcome);
         }
     }
     Ok(())
@@ -127,11 +132,11 @@ fn judges_inside_at_once(rt: HostRuntime) -> Result<(), Fail> {
             met: AtomicU64::new(0),
         },
     )?);
-    let mut session = ParallelSession::in_batches(rt.alloc(), &FOUR_BANKS, 2, 1, pair, true);
+    let mut session = ParallelSession::in_batches(rt.alloc(), &FOUR_BANKS, 2, 1, pair, ORDERED);
     for piece in bytes.chunks(64) {
         let _ = session.feed(&rt, piece);
     }
-    let is_yes = matches!(session.finish(&rt), Verdict::Yes { .. });
+    let is_yes = matches!(session.conclude(&rt).outcome, Outcome::Yes { .. });
     assert!(rt; is_yes);
     assert_eq!(rt; pair.met.load(Ordering::SeqCst), 2);
     Ok(())

@@ -1,5 +1,6 @@
 -- What a session keeps that reads ahead of its judges.
-use Rattle.std.specs.Prelude.{◌≡◌, ◌⊎◌, ◌++◌, ℕ, List, [], Option, Some, None, IsSome, IfSome, Result, OnOk, IfErr}
+use Rattle.std.specs.Prelude.{◌≡◌, ◌⊎◌, ◌++◌, ℕ, true, List, [], Option, Some, None, IsSome, IfSome, Result, OnOk}
+use Rattle.std.specs.Prelude.{IfErr}
 use Rattle.std.specs.Arc.{arc_value}
 use Rattle.lf_rules.specs.declared.event.Record.{Record}
 use Rattle.lf_codec.specs.Reader.{with_records}
@@ -9,7 +10,8 @@ use Rattle.lf_verdict.specs.declared.session.intake.Judging.{Judging}
 use Rattle.lf_verdict.specs.declared.session.intake.Judging.TheVariants.{Running}
 use Rattle.lf_verdict.specs.declared.session.workers.Workers.{Workers}
 use Rattle.lf_verdict.specs.declared.stop.Stop.{Stop}
-use Rattle.lf_verdict.specs.inner.Fed.{HasTaken, HasFedUntil, IsRunningNow}
+use Rattle.lf_verdict.specs.inner.Fed.{HasTaken, HasFedUntil, IsRunningNow, IsAsAsked, IsPlain}
+use Rattle.lf_verdict.specs.inner.Taking.{IsSettled}
 use Rattle.lf_verdict.specs.inner.Workers.{AreWorkers}
 
 -- the records that the workers judge
@@ -30,11 +32,20 @@ session_of a = record a.intake {
       with_records (lent_records a.at_work ++ a.records.records) a.intake.reader;
 }
 
--- Unless it was stopped, it reads ahead only while records are judged; once it was, no worker is there.
+-- No worker is there, and no record waits.
+pub record IsIdle {G : Type 0} (a : Ahead G) : Type 0 where
+  pub alone : a.at_work ≡ None
+  pub none : a.records.records ≡ []
+
+-- Unless it was stopped, it reads ahead only while records are judged, and only where it is not asked what broke first
+-- and not for the statistics; once it was, no worker is there.
 pub record IsAhead {G : Type 0} (a : Ahead G) : Type 0 where
   pub ahead : a.intake.stop ≡ None → IsRunningNow (session_of a).judging ⊎ (a.records.records ≡ [])
   pub alone : IsSome a.intake.stop → a.at_work ≡ None
   pub workers : IfSome a.at_work AreWorkers
+  pub in_turn : a.intake.stop ≡ None → IsPlain a.intake.asked ⊎ IsIdle a
+  pub as_asked : a.intake.stop ≡ None → IsAsAsked a.intake
+  pub settled : a.intake.asked.watched ≡ true → IsSettled a.intake
 
 -- Records are judged, and it took some bytes.
 pub record CanRead {G : Type 0} (a : Ahead G) : Type 0 where

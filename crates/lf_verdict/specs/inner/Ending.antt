@@ -1,5 +1,5 @@
 -- What the check of a trace's logs ends with.
-use Rattle.std.specs.Prelude.{◌≡◌, Bool, true, false, ℕ, ◌<◌, List, [], length, slice_index_or, Option, None}
+use Rattle.std.specs.Prelude.{◌≡◌, ℕ, ◌<◌, List, length, slice_index_or}
 use Rattle.lf_rules.specs.declared.shape.Shape.{Shape}
 use Rattle.lf_rules.specs.declared.event.Record.{Record}
 use Rattle.lf_rules.specs.declared.outcome.Outcome.{Outcome}
@@ -7,8 +7,6 @@ use Rattle.lf_rules.specs.declared.outcome.Outcome.TheVariants as outcomes
 use Rattle.lf_rules.specs.Address.{FlatMemory}
 use Rattle.lf_rules.specs.Order.{IsLeastOrder}
 use Rattle.lf_rules.specs.Ring.{skeletons_of}
-use Rattle.lf_logs.specs.declared.incomplete.Incomplete.{Incomplete}
-use Rattle.lf_logs.specs.Incomplete.{IsFirstIncomplete}
 use Rattle.lf_logs.specs.declared.order.NumberFault.{NumberFault}
 use Rattle.lf_logs.specs.declared.order.NumberFault.TheVariants as numbers
 use Rattle.lf_verdict.specs.declared.answer.Fault.TheVariants as faults
@@ -18,9 +16,9 @@ use Rattle.lf_verdict.specs.declared.early_end.Ending.TheVariants as endings
 use Rattle.lf_verdict.specs.declared.answer.Verdict.{Verdict}
 use Rattle.lf_verdict.specs.declared.answer.Verdict.TheVariants.{Yes, No, Refused}
 use Rattle.lf_verdict.specs.declared.answer.Refusal.TheVariants as refusals
+use Rattle.lf_verdict.specs.Outcome.{IsFaultOfLogs}
 use Rattle.lf_verdict.specs.Parts.{HasWholeNumbers, PartsRun}
-use Rattle.lf_verdict.specs.Unordered.{HasOrder, IsOrderedYes}
-use Rattle.lf_verdict.specs.Verdict.{IsFaultOfLogs, IsTraceVerdict}
+use Rattle.lf_verdict.specs.Verdict.{IsTraceVerdict}
 
 -- the fault of the logs, or out of memory
 abbrev pub IsEnding : Shape → FlatMemory → List (List Record) → Ending → Type 0
@@ -74,27 +72,7 @@ IsLogsVerdict shape memory logs (No fault) = IsFaultOfLogs shape memory logs fau
 IsLogsVerdict shape memory logs (Refused refusals.Memory) = Unit {0}
 IsLogsVerdict shape memory logs _ = ⊥
 
--- the first request of the logs that has no reply, where the verdict is a yes
-abbrev pub IsLogsIncomplete : Shape → List (List Record) → Verdict → Option Incomplete → Type 0
-IsLogsIncomplete shape logs (Yes events order) found = IsFirstIncomplete shape.ports logs found
-IsLogsIncomplete shape logs verdict found = found ≡ None
-
 -- the verdict of the bytes, or out of memory
 abbrev pub IsVerdictOrWant : Shape → List ℕ → Verdict → Type 0
 IsVerdictOrWant shape bytes (Refused refusals.Memory) = Unit {0}
 IsVerdictOrWant shape bytes verdict = IsTraceVerdict shape bytes verdict
-
--- ---- where no order is asked for
-
-abbrev pub IsLogsUnordered : Shape → FlatMemory → List (List Record) → Verdict → Type 0
-IsLogsUnordered shape memory logs (Yes events told) = HasOrder shape memory logs events × (told.items ≡ [])
-IsLogsUnordered shape memory logs verdict = IsLogsVerdict shape memory logs verdict
-
-abbrev pub IsUnorderedOrWant : Shape → List ℕ → Verdict → Type 0
-IsUnorderedOrWant shape bytes (Yes events told) = IsOrderedYes shape bytes events × (told.items ≡ [])
-IsUnorderedOrWant shape bytes verdict = IsVerdictOrWant shape bytes verdict
-
--- ... and where it is said whether one is
-abbrev pub IsAnswerAsAsked : Bool → Shape → List ℕ → Verdict → Type 0
-IsAnswerAsAsked true shape bytes verdict = IsVerdictOrWant shape bytes verdict
-IsAnswerAsAsked false shape bytes verdict = IsUnorderedOrWant shape bytes verdict

@@ -1,5 +1,5 @@
 -- What a session keeps of the bytes that it was fed.
-use Rattle.std.specs.Prelude.{◌≡◌, Bool, ℕ, true, List, [], length, Option, Some, None}
+use Rattle.std.specs.Prelude.{◌≡◌, Bool, ℕ, true, false, List, [], length, Option, Some, None}
 use Rattle.lf_rules.specs.declared.event.Record.{Record}
 use Rattle.lf_rules.specs.declared.shape.Shape.{Shape}
 use Rattle.lf_rules.specs.Address.{flat_memory}
@@ -9,6 +9,7 @@ use Rattle.lf_codec.specs.declared.header.Header.{Header}
 use Rattle.lf_codec.specs.Laws.{AreBytes}
 use Rattle.lf_codec.specs.Reading.{header_of, fault_so_far}
 use Rattle.lf_codec.specs.Reader.{HasRead}
+use Rattle.lf_verdict.specs.declared.session.asked.Asked.{Asked}
 use Rattle.lf_verdict.specs.declared.session.intake.Intake.{Intake}
 use Rattle.lf_verdict.specs.declared.stop.Stop.{Stop}
 use Rattle.lf_verdict.specs.declared.stop.Stop.TheVariants as stops
@@ -40,12 +41,19 @@ IsJudging shape ordered bytes memory records Waiting = records ≡ []
 IsJudging shape ordered bytes memory records (Running running) = IsRunning shape ordered bytes memory records running
 IsJudging shape ordered bytes memory records (Another field) = IsOfAnotherHeader shape bytes field
 
--- The session was fed these bytes, and took these records from them.
+-- Of the memory records that were taken all are kept, and none of a trace of another hierarchy.
+abbrev pub IsKept : Judging → List (ℕ × Bytes) → List (ℕ × Bytes) → Type 0
+IsKept (Another field) taken kept = kept ≡ []
+IsKept _ taken kept = taken ≡ kept
+
+-- The session was fed these bytes, and took these records from them, and these memory records.
 pub record HasJudged (s : Intake) (bytes : List ℕ) (records : List Record) : Type 0 where
   pub in_range : IsShape s.shape
-  pub read : HasRead s.reader bytes s.memory.items records
+  pub taken : List (ℕ × Bytes)
+  pub kept : IsKept s.judging taken s.memory.items
+  pub read : HasRead s.reader bytes taken records
   pub fine : s.reader.fault ≡ None
-  pub judging : IsJudging s.shape s.asked.ordered bytes s.memory.items records s.judging
+  pub judging : IsJudging s.shape s.asked.ordered bytes taken records s.judging
 
 -- ... whichever records they are.
 abbrev pub HasTaken : Intake → List ℕ → Type 0
@@ -66,13 +74,16 @@ abbrev pub IsCounting : Judging → Type 0
 IsCounting (Running running) = Counts running
 IsCounting _ = Unit {0}
 
--- An order is asked for and the records are watched, and they are judged one after another, so that it is known upon
--- which a part broke first. Where the statistics are asked for too, each bank counts.
-pub record IsInTurn (s : Intake) : Type 0 where
-  pub watched : s.asked.watched ≡ true
-  pub ordered : s.asked.ordered ≡ true
-  pub known : IsWatched s.judging
+-- Where it is asked what broke first the records are judged one after another, so that it is known upon which a part
+-- did. Where the statistics are asked for, each bank counts.
+pub record IsAsAsked (s : Intake) : Type 0 where
+  pub known : s.asked.watched ≡ true → IsWatched s.judging
   pub counting : s.asked.counted ≡ true → IsCounting s.judging
+
+-- Neither is asked for.
+pub record IsPlain (asked : Asked) : Type 0 where
+  pub unwatched : asked.watched ≡ false
+  pub uncounted : asked.counted ≡ false
 
 -- Nothing stopped the session and it has judged the records that it took, or a fault that stands in the bytes stopped
 -- it, or memory ran out.

@@ -24,11 +24,17 @@ abbrev pub IsLackingIf : Judging → Reading → List (ℕ × Bytes) → Type 0
 IsLackingIf Waiting reader memory = IsLacking reader memory
 IsLackingIf _ reader memory = Unit {0}
 
--- What can be judged was taken from the reader.
+-- No memory record is kept, and neither one nor a record waits in the reader.
+pub record KeepsNothing (reader : Reading) (memory : List (ℕ × Bytes)) : Type 0 where
+  pub none_kept : memory ≡ []
+  pub none_waits : reader.memory ≡ []
+  pub no_record : reader.records ≡ []
+
+-- What can be judged was taken from the reader. Of a trace of another hierarchy nothing is kept.
 abbrev pub IsDrained : Judging → Reading → List (ℕ × Bytes) → Type 0
 IsDrained Waiting reader memory = IsLacking reader memory
 IsDrained (Running running) reader memory = reader.records ≡ []
-IsDrained (Another field) reader memory = Unit {0}
+IsDrained (Another field) reader memory = KeepsNothing reader memory
 
 -- Unless it was stopped, what can be judged was taken.
 abbrev pub IsSettled : Intake → Type 0

@@ -2,8 +2,8 @@
 
 ghost use Rattle.lf_verdict.specs.Final.{PartFaultsAreFinal, OtherHeadersAreFinal};
 ghost use Rattle.lf_verdict.specs.Named.{OneIsNamed};
-ghost use Rattle.lf_verdict.specs.Unordered.{OrderedYesIsLegal};
-ghost use Rattle.lf_verdict.specs.Laws.{YesIsLegal, NoHasNoRun, VerdictsAreOne, MixturesAreAlike, WorkersAreAlike};
+ghost use Rattle.lf_verdict.specs.Laws.{YesIsLegal, NoHasNoRun, OneOutcome, VerdictsAreOne, VerdictsTellOutcomes};
+ghost use Rattle.lf_verdict.specs.Laws.{WorkersAreAlike, MixturesHaveOneOutcome, MixturesAreAlike};
 
 mod collected;
 mod configured;
@@ -18,21 +18,9 @@ use lf_rules::{
     skeletons_follow,
 };
 
-/// Where each part of a trace runs and its logs have an order, the trace is legal by that order.
+/// Where each part of a trace runs, the trace is legal by each order of its logs that keeps the numbers.
 pub fn yes_is_legal()
     ensures { YesIsLegal }
-{
-    runs_by_parts();
-    runs_are_right();
-    interleavings_are_numbered();
-    numbers_are_whole();
-    orders_interleave();
-    skeletons_follow();
-}
-
-/// Where each part of a trace runs and its logs have some order, the trace is legal by it.
-pub(crate) fn ordered_yes_is_legal()
-    ensures { OrderedYesIsLegal }
 {
     runs_by_parts();
     runs_are_right();
@@ -57,9 +45,10 @@ pub fn no_has_no_run()
     one_trace();
 }
 
-/// Bytes have one verdict.
+/// Bytes have one outcome, and one verdict.
 pub fn verdicts_are_one()
-    ensures { VerdictsAreOne }
+    ensures outcome { OneOutcome }
+    ensures verdict { VerdictsAreOne }
 {
     numbers_are_whole();
     outcomes_are_one();
@@ -71,16 +60,18 @@ pub fn verdicts_are_one()
     faultless_bytes();
 }
 
-/// So they have the same with any number of workers.
+/// So they have the same with any number of workers: what is told is the outcome of the bytes.
 pub fn workers_are_alike()
-    ensures { WorkersAreAlike }
+    ensures outcome { VerdictsTellOutcomes }
+    ensures verdict { WorkersAreAlike }
 {
     verdicts_are_one();
 }
 
 /// How the logs are mixed in the bytes does not matter.
 pub fn mixtures_are_alike()
-    ensures { MixturesAreAlike }
+    ensures outcome { MixturesHaveOneOutcome }
+    ensures verdict { MixturesAreAlike }
 {
     one_trace();
     faultless_bytes();

@@ -1,23 +1,25 @@
 //! What a session keeps that reads ahead of its judges.
 
 ghost use Rattle.std.specs.Prelude.{◌≡◌, ◌<◌, ◌↔◌, ◌++◌, ℕ, List, [], Some, None, IsSome, IfSome, IfOk, OnOk};
-ghost use Rattle.std.specs.Prelude.{IsTrue, IfNone};
+ghost use Rattle.std.specs.Prelude.{true, IsTrue, IfNone};
 ghost use Rattle.lf_rules.specs.InRange.{IsShape};
 ghost use Rattle.lf_codec.specs.declared.fault.Told.TheVariants as tolds;
-ghost use Rattle.lf_verdict.specs.declared.answer.Verdict.{Verdict};
-ghost use Rattle.lf_verdict.specs.inner.Ending.{IsAnswerAsAsked};
+ghost use Rattle.lf_verdict.specs.declared.answer.Outcome.{Outcome};
+ghost use Rattle.lf_verdict.specs.Conclusion.{IsConclusion};
+ghost use Rattle.lf_verdict.specs.inner.Judged.{IsFound};
 ghost use Rattle.lf_verdict.specs.Session.{refusal_of, stop_told};
-ghost use Rattle.lf_verdict.specs.inner.Fed.{HasTaken, HasFed, IsRunningNow};
+ghost use Rattle.lf_verdict.specs.inner.Fed.{HasTaken, HasFed, IsRunningNow, IsAsAsked, IsPlain};
 ghost use Rattle.lf_verdict.specs.inner.Ahead.{session_of, IsAhead, CanRead, ReadsOn};
 ghost use Rattle.lf_verdict.specs.inner.Workers.{AreWorkers};
 ghost use Rattle.lf_verdict.specs.Final.{IsFinal};
 ghost use Rattle.lf_verdict.specs.Named.{IsNamed, NoneBrokeSoFar};
 ghost use Rattle.lf_verdict.specs.declared.stop.Stop.TheVariants as stops;
-ghost use Rattle.lf_verdict.specs.inner.Taking.{running_before};
+ghost use Rattle.lf_verdict.specs.inner.Taking.{running_before, IsSettled};
 
-use crate::answer::{Refusal, Verdict};
+use crate::answer::Refusal;
 use crate::session::asked::Asked;
 use crate::session::breaking::Broken;
+use crate::session::conclusion::Conclusion;
 use crate::session::intake::{Intake, Judging};
 use crate::session::share::judged;
 use crate::session::standing::Standing;
@@ -29,6 +31,7 @@ use lf_rules::{NoMemory, Shape};
 use std::alloc::Global;
 use std::mem;
 use std::thread::Threads;
+use trace_fed::Fed;
 
 /// So many batches are read ahead at most before the reader waits for the workers.
 const MOST_BATCHES: usize = 4;
@@ -53,27 +56,22 @@ pub struct Ahead<G> {
 }
 
 impl<G: Gate + Sync + Send + Copy + 'static> Ahead<G> {
-    /// Nothing was fed yet. Where it is `ordered`, an order of the events is asked for.
+    /// Nothing was fed yet.
     pub fn new(
         alloc: Global,
         shape: &Shape,
         workers: u32,
         batch: usize,
         gate: G,
-        ordered: bool,
+        asked: Asked,
     ) -> Ahead<G>
         requires { IsShape shape.now }
         ensures shape { result.intake.shape ≡ shape.now }
-        ensures ordered { result.intake.asked.ordered ≡ ordered }
+        ensures asked { result.intake.asked ≡ asked }
         ensures fresh { result.intake.stop ≡ None }
         ensures fed { HasFed (session_of result) [] }
         ensures ahead { IsAhead result }
     {
-        let asked = Asked {
-            watched: false,
-            ordered,
-            counted: false,
-        };
         Ahead {
             intake: Intake::new(alloc, shape, asked),
             workers,
@@ -90,6 +88,13 @@ impl<G: Gate + Sync + Send + Copy + 'static> Ahead<G> {
         ensures { 0 < result }
     {
         self.workers.max(1) as usize
+    }
+
+    /// Whether records may be judged together: not where it is asked upon which a part breaks first, or for counts.
+    fn is_plain(&self) -> bool
+        ensures { IsTrue result → IsPlain self.now.intake.asked }
+    {
+        !self.intake.asked.watched && !self.intake.asked.counted
     }
 
     /// Whether records are judged.
@@ -175,6 +180,8 @@ impl<G: Gate + Sync + Send + Copy + 'static> Ahead<G> {
         ensures asked { self.new.intake.asked ≡ self.old.intake.asked }
         ensures stop { self.new.intake.stop ≡ self.old.intake.stop }
         ensures alone { self.new.at_work ≡ None }
+        ensures as_asked { IsAsAsked self.new.intake }
+        ensures settled { self.old.intake.asked.watched ≡ true → IsSettled self.new.intake }
         ensures none { OnOk result (self.new.records.records ≡ []) }
         ensures taken { (bytes : List ℕ) → HasTaken (session_of self.old) bytes →
             OnOk result (HasTaken self.new.intake bytes) }
@@ -260,6 +267,7 @@ impl<G: Gate + Sync + Send + Copy + 'static> Ahead<G> {
     ) -> Result<(), Told<Refusal>>
         requires can { CanRead self.old }
         requires going { self.old.intake.stop ≡ None }
+        requires plain { IsPlain self.old.intake.asked }
         ensures ahead { IsAhead self.new }
         ensures shape { self.new.intake.shape ≡ self.old.intake.shape }
         ensures asked { self.new.intake.asked ≡ self.old.intake.asked }
@@ -311,32 +319,28 @@ impl<G: Gate + Sync + Send + Copy + 'static> Ahead<G> {
         if let Some(stop) = self.intake.stop {
             return Err(Told::Failed(Refusal::from(stop)));
         }
-        if self.workers > 1 && self.alone == 0 && self.is_running() {
+        if self.workers > 1 && self.alone == 0 && self.is_plain() && self.is_running() {
             return self.feed_ahead(rt, piece);
         }
         self.alone = self.alone.saturating_sub(piece.len());
         self.feed_alone(rt, piece)
     }
 
-    /// The verdict of the bytes that were fed. A yes tells an order where one is asked for. No thread is left at work.
-    pub fn answer<R: Threads + Sync>(&mut self, rt: &R) -> Verdict
-        requires fed { (bytes : List ℕ) × HasFed (session_of self.old) bytes }
+    /// What is answered of the bytes that were fed. No thread is left at work.
+    pub fn conclude<R: Threads + Sync>(&mut self, rt: &R, fed: Fed) -> Conclusion
+        requires fed { HasFed (session_of self.old) fed.bytes }
         requires ahead { IsAhead self.old }
-        ensures answer { (bytes : List ℕ) → HasFed (session_of self.old) bytes →
-            IsAnswerAsAsked self.old.intake.asked.ordered self.old.intake.shape bytes result }
-        ensures stopped { IfSome self.old.intake.stop (λ stop. result ≡ Verdict.Refused (refusal_of stop)) }
+        ensures fed { result.fed ≡ fed }
+        ensures concluded { IsConclusion self.old.intake.asked self.old.intake.shape result }
+        ensures stopped { IfSome self.old.intake.stop (λ stop. result.outcome ≡ Outcome.Refused (refusal_of stop)) }
         ensures alone { self.new.at_work ≡ None }
     {
-        if let Some(stop) = self.intake.stop {
-            return Verdict::Refused(Refusal::from(stop));
+        if let Some(_) = self.intake.stop {
+            return self.intake.conclude(fed);
         }
-        if let Err(NoMemory) = self.settle(rt) {
-            return Verdict::Refused(Refusal::Memory);
-        }
-        if self.intake.asked.ordered {
-            self.intake.conclude().verdict
-        } else {
-            self.intake.finish_unordered()
+        match self.settle(rt) {
+            Ok(()) => self.intake.conclude(fed),
+            Err(NoMemory) => Conclusion::without_memory(fed),
         }
     }
 
@@ -349,6 +353,7 @@ impl<G: Gate + Sync + Send + Copy + 'static> Ahead<G> {
         ensures asked { self.new.intake.asked ≡ self.old.intake.asked }
         ensures stop { self.new.intake.stop ≡ self.old.intake.stop }
         ensures alone { self.new.at_work ≡ None }
+        ensures as_asked { IsAsAsked self.new.intake }
         ensures ready { OnOk result (self.new.records.records ≡ []) }
         ensures taken { (bytes : List ℕ) → HasTaken (session_of self.old) bytes →
             OnOk result (HasTaken self.new.intake bytes) }
@@ -375,16 +380,16 @@ impl<G: Gate + Sync + Send + Copy + 'static> Ahead<G> {
         ensures failed { IsSome self.old.intake.stop → self.new ≡ self.old }
         ensures memory { self.old.intake.stop ≡ None → IfSome self.new.intake.stop (λ stop. stop ≡ stops.Memory) }
         ensures stopped { IsSome self.new.intake.stop → result ≡ None }
-        ensures stands { (bytes : List ℕ) → HasFed (session_of self.old) bytes
-            → IfSome result (IsFinal self.old.intake.shape bytes) }
-        ensures named { (bytes : List ℕ) → HasFed (session_of self.old) bytes
-            → IfSome result (IsNamed self.old.intake.shape bytes) }
-        ensures none { self.new.intake.stop ≡ None → (bytes : List ℕ) → HasFed (session_of self.old) bytes
-            → IfNone result (NoneBrokeSoFar self.old.intake.shape bytes) }
+        ensures watched { self.old.intake.asked.watched ≡ true → self.new ≡ self.old }
+        ensures found { (bytes : List ℕ) → HasFed (session_of self.old) bytes
+            → IsFound self.old.intake.asked self.old.intake.shape bytes self.new.intake.stop result }
     {
         let None = self.intake.stop else {
             return None;
         };
+        if self.intake.asked.watched {
+            return self.intake.broken();
+        }
         match self.named(rt) {
             Ok(found) => found,
             Err(NoMemory) => {

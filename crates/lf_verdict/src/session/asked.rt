@@ -1,12 +1,12 @@
 //! What a session is asked for.
 
-/// What a session is asked for beside the verdict.
+/// What is asked of a trace beside its outcome. Each takes time, and an order takes memory.
 #[derive(Clone, Copy)]
 pub struct Asked {
-    /// Upon which record a part breaks first.
-    pub watched: bool,
-    /// An order of the events.
+    /// After a yes the least order of its events.
     pub ordered: bool,
-    /// The statistics of the trace.
+    /// What broke first, with the record upon which it did.
+    pub watched: bool,
+    /// After a yes the statistics.
     pub counted: bool,
 }

@@ -1,11 +1,7 @@
 //! What broke for good, whatever bytes follow.
 
-ghost use Rattle.std.specs.Prelude.{◌≡◌, None};
-
-use crate::answer::{HeaderField, Verdict};
-use lf_logs::Incomplete;
+use crate::answer::HeaderField;
 use lf_rules::Rule;
-use lf_stats::Stats;
 
 /// A fault of one part of a trace. It stands whatever records follow.
 #[derive(Clone, Copy, Debug, PartialEq, Eq)]
@@ -40,36 +36,6 @@ pub enum Broken {
         fault: PartFault,
         upon: Option<Upon>,
     },
-}
-
-/// What a session answers when it ends.
-#[derive(Debug, Drop)]
-pub struct Conclusion {
-    pub verdict: Verdict,
-    /// What broke first, where something did.
-    pub broken: Option<Broken>,
-    /// After a yes the lowest tag without a reply, of the lowest port that has one.
-    pub incomplete: Option<Incomplete>,
-}
-
-/// What a session that counts answers when it ends.
-#[derive(Debug, Drop)]
-pub struct Counted {
-    pub verdict: Verdict,
-    /// The statistics of the trace, after a yes.
-    pub stats: Option<Stats>,
-}
-
-impl Counted {
-    /// Where no statistics are told.
-    pub(crate) fn of(verdict: Verdict) -> Counted
-        ensures { result ≡ record { verdict = verdict; stats = None } }
-    {
-        Counted {
-            verdict,
-            stats: None,
-        }
-    }
 }
 
 /// The first record of a trace upon which a part broke, and a fault that broke upon it.

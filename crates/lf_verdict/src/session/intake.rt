@@ -3,17 +3,16 @@
 ghost use Rattle.std.specs.Prelude.{◌≡◌, ◌<◌, ◌++◌, ℕ, List, [], Some, None, IsSome, IfSome, IfNone, IfOk, Ok, OnOk};
 ghost use Rattle.std.specs.Prelude.{◌≤◌, Bool, true, length, take, OnErr};
 ghost use Rattle.lf_rules.specs.InRange.{IsShape};
-ghost use Rattle.lf_verdict.specs.inner.Ending.{IsVerdictOrWant, IsUnorderedOrWant};
+ghost use Rattle.lf_verdict.specs.inner.Judged.{IsJudged, TellsFirst};
+ghost use Rattle.lf_verdict.specs.Conclusion.{IsConclusion};
+ghost use Rattle.lf_verdict.specs.Outcome.{IsYesOutcome};
 ghost use Rattle.lf_verdict.specs.Standing.{Counts, IsKnown};
 ghost use Rattle.lf_verdict.specs.Named.{IsNamed, NoneBrokeSoFar};
-ghost use Rattle.lf_verdict.specs.Verdict.{IsDecided};
-ghost use Rattle.lf_verdict.specs.Incomplete.{IsIncompleteFor};
-ghost use Rattle.lf_verdict.specs.Final.{IsFinal, IsEarliest, NoneBrokeInTrace};
+ghost use Rattle.lf_verdict.specs.Final.{IsFinal, IsEarliest};
 ghost use Rattle.lf_verdict.specs.Session.{refusal_of, stop_told};
-ghost use Rattle.lf_verdict.specs.inner.Fed.{IsRunning, HasTaken, IsInTurn, HasFed};
+ghost use Rattle.lf_verdict.specs.inner.Fed.{IsRunning, HasTaken, IsAsAsked, HasFed};
 ghost use Rattle.lf_verdict.specs.Session.{IsOfAnotherHeader, HeaderAgrees};
 ghost use Rattle.lf_verdict.specs.inner.Fed.{IsCounting};
-ghost use Rattle.lf_verdict.specs.Statistics.{AreStatisticsOf, IsYesVerdict};
 ghost use Rattle.lf_verdict.specs.inner.Taking.{IsLackingIf, IsDrained, IsSettled, CanJudge, RunsOn, Begins};
 ghost use Rattle.lf_verdict.specs.inner.Taking.{answer_of, bytes_taken, TakesSome};
 ghost use Rattle.lf_codec.specs.Reader.{CanLend};
@@ -24,16 +23,18 @@ ghost use Rattle.lf_rules.specs.Fits.{Bytes};
 ghost use Rattle.lf_codec.specs.Reader.{HasRead};
 ghost use Rattle.lf_codec.specs.declared.fault.Told.TheVariants as tolds;
 
-use crate::answer::{HeaderField, Refusal, Verdict};
+use crate::answer::{HeaderField, Outcome, Refusal};
 use crate::header::{differing, first_offset};
-use crate::laws::{other_headers_are_final, part_faults_are_final};
+use crate::laws::{no_has_no_run, other_headers_are_final, part_faults_are_final, yes_is_legal};
 use crate::session::asked::Asked;
-use crate::session::breaking::{Broken, Conclusion, Counted};
+use crate::session::breaking::Broken;
+use crate::session::conclusion::Conclusion;
 use crate::session::standing::{Judged, Standing};
 use crate::stop::Stop;
 use lf_codec::{Reader, Told, exact_reading, faults_stand, header_of_bytes, read_so_far};
 use lf_rules::{Memory, NoMemory, Shape};
 use std::alloc::Global;
+use trace_fed::Fed;
 use trace_views::RecordView;
 
 /// How far the judging is.
@@ -58,9 +59,19 @@ pub struct Intake {
     pub asked: Asked,
 }
 
+/// Takes the memory records that the reader has found, so that it need not keep them.
+fn discard_memory(reader: &mut Reader)
+    ensures rest { reader.new ≡ record reader.old { memory = [] } }
+    ensures read { (bytes : List ℕ) (memory : List (ℕ × Bytes)) (records : List Record) →
+        HasRead reader.old bytes memory records
+        → (more : List (ℕ × Bytes)) × HasRead reader.new bytes more records }
+{
+    while reader.take_memory().is_some() {}
+}
+
 /// Takes the records that the reader has found, so that it need not keep them.
-fn discard(reader: &mut Reader)
-    ensures fault { reader.new.fault ≡ reader.old.fault }
+fn discard_records(reader: &mut Reader)
+    ensures rest { reader.new ≡ record reader.old { records = [] } }
     ensures read { (bytes : List ℕ) (memory : List (ℕ × Bytes)) (records : List Record) →
         HasRead reader.old bytes memory records
         → (more : List Record) × HasRead reader.new bytes memory more }
@@ -112,14 +123,14 @@ fn judge_run(reader: &mut Reader, standing: &mut Standing, bytes: &[u8]) -> Resu
 }
 
 impl Intake {
-    /// Nothing was fed yet. What it is asked for takes time, and an order takes memory.
+    /// Nothing was fed yet.
     pub fn new(alloc: Global, shape: &Shape, asked: Asked) -> Intake
         requires { IsShape shape.now }
         ensures shape { result.shape ≡ shape.now }
         ensures asked { result.asked ≡ asked }
         ensures fresh { result.stop ≡ None }
         ensures fed { HasFed result [] }
-        ensures in_turn { asked.watched ≡ true → asked.ordered ≡ true → IsInTurn result }
+        ensures as_asked { IsAsAsked result }
         ensures settled { IsSettled result }
     {
         Intake {
@@ -166,7 +177,7 @@ impl Intake {
         ensures stop { self.new.stop ≡ self.old.stop }
         ensures taken { (bytes : List ℕ) → HasTaken self.old bytes → OnOk result (HasTaken self.new bytes) }
         ensures drained { OnOk result (IsDrained self.new.judging self.new.reader self.new.memory.items) }
-        ensures in_turn { IsInTurn self.old → IsInTurn self.new }
+        ensures as_asked { IsAsAsked self.old → IsAsAsked self.new }
     {
         self.prepare()?;
         self.judge()
@@ -180,7 +191,7 @@ impl Intake {
         ensures stop { self.new.stop ≡ self.old.stop }
         ensures taken { (bytes : List ℕ) → HasTaken self.old bytes → OnOk result (HasTaken self.new bytes) }
         ensures lacking { OnOk result (IsLackingIf self.new.judging self.new.reader self.new.memory.items) }
-        ensures in_turn { IsInTurn self.old → IsInTurn self.new }
+        ensures as_asked { IsAsAsked self.old → IsAsAsked self.new }
     {
         let Judging::Waiting = self.judging else {
             return Ok(());
@@ -198,12 +209,13 @@ impl Intake {
         ensures stop { self.new.stop ≡ self.old.stop }
         ensures taken { (bytes : List ℕ) → HasTaken self.old bytes → OnOk result (HasTaken self.new bytes) }
         ensures drained { OnOk result (IsDrained self.new.judging self.new.reader self.new.memory.items) }
-        ensures in_turn { IsInTurn self.old → IsInTurn self.new }
+        ensures as_asked { IsAsAsked self.old → IsAsAsked self.new }
     {
         match &mut self.judging {
             Judging::Waiting => Ok(()),
             Judging::Another(_) => {
-                discard(&mut self.reader);
+                discard_memory(&mut self.reader);
+                discard_records(&mut self.reader);
                 Ok(())
             }
             Judging::Running(standing) => judge_records(&mut self.reader, standing),
@@ -220,13 +232,14 @@ impl Intake {
         ensures stop { self.new.stop ≡ self.old.stop }
         ensures taken { (bytes : List ℕ) → HasTaken self.old bytes → OnOk result (HasTaken self.new bytes) }
         ensures lacking { OnOk result (IsLackingIf self.new.judging self.new.reader self.new.memory.items) }
-        ensures in_turn { IsInTurn self.old → IsInTurn self.new }
+        ensures as_asked { IsAsAsked self.old → IsAsAsked self.new }
     {
         read_so_far();
         let Some(header) = self.reader.header() else {
             return Ok(());
         };
         if let Some(field) = differing(&self.shape, header) {
+            self.memory = Vec::new(self.alloc);
             self.judging = Judging::Another(field);
             return Ok(());
         }
@@ -257,7 +270,7 @@ impl Intake {
         ensures fed { (bytes : List ℕ) → HasFed self.old bytes → HasFed self.new (bytes ++ piece.now) }
         ensures told { result ≡ stop_told self.old.stop self.new.stop }
         ensures failed { IsSome self.old.stop → self.new ≡ self.old }
-        ensures in_turn { IsInTurn self.old → IsInTurn self.new }
+        ensures as_asked { IsAsAsked self.old → IsAsAsked self.new }
         ensures settled { IsSettled self.old → IsSettled self.new }
     {
         faults_stand();
@@ -284,7 +297,7 @@ impl Intake {
         ensures some { IfOk result (TakesSome bytes.now) }
         ensures fed { (fed : List ℕ) → HasFed self.old fed → HasFed self.new (fed ++ bytes_taken result bytes.now) }
         ensures told { answer_of result ≡ stop_told self.old.stop self.new.stop }
-        ensures in_turn { IsInTurn self.old → IsInTurn self.new }
+        ensures as_asked { IsAsAsked self.old → IsAsAsked self.new }
         ensures settled { IsSettled self.new }
     {
         header_of_bytes();
@@ -309,7 +322,7 @@ impl Intake {
         ensures few { IfOk result (λ n. n ≤ length bytes.now) }
         ensures fed { (fed : List ℕ) → HasFed self.old fed → HasFed self.new (fed ++ bytes_taken result bytes.now) }
         ensures told { answer_of result ≡ stop_told self.old.stop self.new.stop }
-        ensures in_turn { IsInTurn self.old → IsInTurn self.new }
+        ensures as_asked { IsAsAsked self.old → IsAsAsked self.new }
     {
         if !self.reader.can_lend() {
             return Ok(0);
@@ -333,7 +346,7 @@ impl Intake {
         ensures some { IfOk result (TakesSome bytes.now) }
         ensures fed { (fed : List ℕ) → HasFed self.old fed → HasFed self.new (fed ++ bytes_taken result bytes.now) }
         ensures told { answer_of result ≡ stop_told self.old.stop self.new.stop }
-        ensures in_turn { IsInTurn self.old → IsInTurn self.new }
+        ensures as_asked { IsAsAsked self.old → IsAsAsked self.new }
         ensures settled { IsSettled self.new }
     {
         let n = match self.feed_run(bytes) {
@@ -346,147 +359,70 @@ impl Intake {
         }
     }
 
-    /// The verdict of the bytes that were fed, once what came is judged, and after a yes the first request without a
-    /// reply.
+    /// What is answered of the bytes that were fed, as those of a whole trace, once what came is judged.
     fn judged(&mut self) -> Judged
-        requires ordered { self.old.asked.ordered ≡ true }
         requires taken { (bytes : List ℕ) × HasTaken self.old bytes }
         requires drained { IsDrained self.old.judging self.old.reader self.old.memory.items }
-        ensures answer { (bytes : List ℕ) → HasTaken self.old bytes →
-            IsVerdictOrWant self.old.shape bytes result.verdict }
-        ensures incomplete { (bytes : List ℕ) → HasTaken self.old bytes →
-            IsIncompleteFor self.old.shape bytes result.verdict result.incomplete }
+        ensures judged { (bytes : List ℕ) → HasTaken self.old bytes → IsJudged self.old.shape bytes result }
+        ensures ordered { self.old.asked.ordered ≡ true → IsYesOutcome result.outcome → IsSome result.order }
+        ensures counted { IsCounting self.old.judging → IsYesOutcome result.outcome → IsSome result.statistics }
     {
         exact_reading();
         if let Err(told) = self.reader.finish() {
-            return Judged::of(Verdict::Refused(Refusal::from(Stop::from(told))));
+            return Judged::of(Outcome::Refused(Refusal::from(Stop::from(told))));
         }
         match &mut self.judging {
             Judging::Waiting => unreachable!(),
-            Judging::Another(field) => Judged::of(Verdict::Refused(Refusal::Header(*field))),
+            Judging::Another(field) => Judged::of(Outcome::Refused(Refusal::Header(*field))),
             Judging::Running(standing) => standing.judged(self.alloc),
         }
     }
 
-    /// The verdict of the bytes that were fed, what broke first in them, and after a yes the first request without a
-    /// reply. Where they are judged and nothing is told to have broken, no part of a trace in them is at fault.
-    pub fn conclude(&mut self) -> Conclusion
-        requires ordered { self.old.asked.ordered ≡ true }
-        requires fed { (bytes : List ℕ) × HasFed self.old bytes }
-        ensures answer { (bytes : List ℕ) → HasFed self.old bytes →
-            IsVerdictOrWant self.old.shape bytes result.verdict }
-        ensures stopped { IfSome self.old.stop (λ stop. result.verdict ≡ Verdict.Refused (refusal_of stop)) }
-        ensures stands { (bytes : List ℕ) → HasFed self.old bytes →
-            IfSome result.broken (IsFinal self.old.shape bytes) }
-        ensures earliest { IsInTurn self.old → (bytes : List ℕ) → HasFed self.old bytes
-            → IfSome result.broken (IsEarliest self.old.shape bytes) }
-        ensures none { IsDecided result.verdict → (bytes : List ℕ) → HasFed self.old bytes
-            → IfNone result.broken (NoneBrokeInTrace self.old.shape bytes) }
-        ensures incomplete { (bytes : List ℕ) → HasFed self.old bytes →
-            IsIncompleteFor self.old.shape bytes result.verdict result.incomplete }
+    /// What broke first in the bytes that were fed, once what came is judged and where that is asked for.
+    fn first_broken(&self) -> Option<Broken>
+        requires going { self.now.stop ≡ None }
+        requires taken { (bytes : List ℕ) × HasTaken self.now bytes }
+        requires as_asked { IsAsAsked self.now }
+        requires drained { IsDrained self.now.judging self.now.reader self.now.memory.items }
+        ensures { (bytes : List ℕ) → HasTaken self.now bytes → TellsFirst self.now.asked self.now.shape bytes result }
+    {
+        if self.asked.watched {
+            return self.broken();
+        }
+        None
+    }
+
+    /// What is answered of the bytes that were fed.
+    pub fn conclude(&mut self, fed: Fed) -> Conclusion
+        requires fed { HasFed self.old fed.bytes }
+        requires as_asked { self.old.stop ≡ None → IsAsAsked self.old }
+        ensures fed { result.fed ≡ fed }
+        ensures concluded { IsConclusion self.old.asked self.old.shape result }
+        ensures stopped { IfSome self.old.stop (λ stop. result.outcome ≡ Outcome.Refused (refusal_of stop)) }
     {
         exact_reading();
-        read_so_far();
+        yes_is_legal();
+        no_has_no_run();
         if let Some(stop) = self.stop {
-            let verdict = Verdict::Refused(Refusal::from(stop));
-            return Conclusion {
-                verdict,
-                broken: None,
-                incomplete: None,
-            };
+            return Conclusion::refused(fed, Refusal::from(stop));
         }
         if let Err(NoMemory) = self.take_all() {
-            let verdict = Verdict::Refused(Refusal::Memory);
-            return Conclusion {
-                verdict,
-                broken: None,
-                incomplete: None,
-            };
+            return Conclusion::without_memory(fed);
         }
-        let found = self.broken();
-        let judged = self.judged();
+        let broken = self.first_broken();
+        let Judged {
+            outcome,
+            order,
+            incomplete,
+            statistics,
+        } = self.judged();
         Conclusion {
-            verdict: judged.verdict,
-            broken: found,
-            incomplete: judged.incomplete,
-        }
-    }
-
-    /// The verdict of the bytes that were fed, once what came is judged, and after a yes the statistics of the trace,
-    /// where each bank counts.
-    fn judged_and_counted(&mut self) -> Counted
-        requires ordered { self.old.asked.ordered ≡ true }
-        requires taken { (bytes : List ℕ) × HasTaken self.old bytes }
-        requires drained { IsDrained self.old.judging self.old.reader self.old.memory.items }
-        ensures answer { (bytes : List ℕ) → HasTaken self.old bytes →
-            IsVerdictOrWant self.old.shape bytes result.verdict }
-        ensures counted { (bytes : List ℕ) → HasTaken self.old bytes →
-            IfSome result.stats (AreStatisticsOf self.old.shape bytes) }
-        ensures told { IsCounting self.old.judging → IsYesVerdict result.verdict → IsSome result.stats }
-        ensures yes { IsSome result.stats → IsYesVerdict result.verdict }
-    {
-        exact_reading();
-        if let Err(told) = self.reader.finish() {
-            return Counted::of(Verdict::Refused(Refusal::from(Stop::from(told))));
-        }
-        match &mut self.judging {
-            Judging::Waiting => unreachable!(),
-            Judging::Another(field) => Counted::of(Verdict::Refused(Refusal::Header(*field))),
-            Judging::Running(standing) => standing.counted(self.alloc),
-        }
-    }
-
-    /// The verdict of the bytes that were fed, and after a yes the statistics of the trace, where they are asked for.
-    pub fn counted(&mut self) -> Counted
-        requires ordered { self.old.asked.ordered ≡ true }
-        requires fed { (bytes : List ℕ) × HasFed self.old bytes }
-        ensures answer { (bytes : List ℕ) → HasFed self.old bytes →
-            IsVerdictOrWant self.old.shape bytes result.verdict }
-        ensures stopped { IfSome self.old.stop (λ stop. result.verdict ≡ Verdict.Refused (refusal_of stop)) }
-        ensures counted { (bytes : List ℕ) → HasFed self.old bytes →
-            IfSome result.stats (AreStatisticsOf self.old.shape bytes) }
-        ensures told { IsInTurn self.old → self.old.asked.counted ≡ true → IsYesVerdict result.verdict →
-            IsSome result.stats }
-        ensures yes { IsSome result.stats → IsYesVerdict result.verdict }
-    {
-        if let Some(stop) = self.stop {
-            return Counted::of(Verdict::Refused(Refusal::from(stop)));
-        }
-        match self.take_all() {
-            Ok(()) => self.judged_and_counted(),
-            Err(NoMemory) => Counted::of(Verdict::Refused(Refusal::Memory)),
-        }
-    }
-
-    /// The verdict of the bytes that were fed, once what came is judged. A yes tells no order.
-    fn judged_unordered(&mut self) -> Verdict
-        requires taken { (bytes : List ℕ) × HasTaken self.old bytes }
-        requires drained { IsDrained self.old.judging self.old.reader self.old.memory.items }
-        ensures { (bytes : List ℕ) → HasTaken self.old bytes → IsUnorderedOrWant self.old.shape bytes result }
-    {
-        exact_reading();
-        if let Err(told) = self.reader.finish() {
-            return Verdict::Refused(Refusal::from(Stop::from(told)));
-        }
-        match &mut self.judging {
-            Judging::Waiting => unreachable!(),
-            Judging::Another(field) => Verdict::Refused(Refusal::Header(*field)),
-            Judging::Running(standing) => standing.judged_unordered(self.alloc),
-        }
-    }
-
-    /// The verdict of the bytes that were fed. A yes tells no order.
-    pub fn finish_unordered(&mut self) -> Verdict
-        requires { (bytes : List ℕ) × HasFed self.old bytes }
-        ensures answer { (bytes : List ℕ) → HasFed self.old bytes → IsUnorderedOrWant self.old.shape bytes result }
-        ensures stopped { IfSome self.old.stop (λ stop. result ≡ Verdict.Refused (refusal_of stop)) }
-    {
-        if let Some(stop) = self.stop {
-            return Verdict::Refused(Refusal::from(stop));
-        }
-        match self.take_all() {
-            Ok(()) => self.judged_unordered(),
-            Err(NoMemory) => Verdict::Refused(Refusal::Memory),
+            fed,
+            outcome,
+            order,
+            broken,
+            incomplete,
+            statistics,
         }
     }
 
@@ -507,7 +443,7 @@ impl Intake {
     pub fn broken(&self) -> Option<Broken>
         requires { (bytes : List ℕ) × HasFed self.now bytes }
         ensures stands { (bytes : List ℕ) → HasFed self.now bytes → IfSome result (IsFinal self.now.shape bytes) }
-        ensures earliest { IsInTurn self.now → (bytes : List ℕ) → HasFed self.now bytes
+        ensures earliest { IsAsAsked self.now → self.now.asked.watched ≡ true → (bytes : List ℕ) → HasFed self.now bytes
             → IfSome result (IsEarliest self.now.shape bytes) }
         ensures none { IsSettled self.now → self.now.stop ≡ None → (bytes : List ℕ) → HasFed self.now bytes
             → IfNone result (NoneBrokeSoFar self.now.shape bytes) }
@@ -554,6 +490,7 @@ impl Intake {
         ensures shape { self.new.shape ≡ self.old.shape }
         ensures asked { self.new.asked ≡ self.old.asked }
         ensures stop { self.new.stop ≡ self.old.stop }
+        ensures as_asked { IsAsAsked self.old → IsAsAsked self.new }
         ensures taken { (bytes : List ℕ) → HasTaken self.old bytes → OnOk result (HasTaken self.new bytes) }
         ensures stands { (bytes : List ℕ) → HasTaken self.old bytes
             → IfOk result (λ found. IfSome found (IsFinal self.old.shape bytes)) }

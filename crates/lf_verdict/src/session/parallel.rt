@@ -4,20 +4,18 @@ ghost use Rattle.std.specs.Prelude.{◌≡◌, ◌++◌, true, false, [], None, 
 ghost use Rattle.lf_rules.specs.InRange.{IsShape};
 ghost use Rattle.lf_codec.specs.Reader.{fault_in};
 ghost use Rattle.lf_codec.specs.Reading.{fault_so_far};
-ghost use Rattle.lf_verdict.specs.declared.answer.Verdict.{Verdict};
-ghost use Rattle.lf_verdict.specs.declared.answer.Refusal.{Refusal};
-ghost use Rattle.lf_verdict.specs.Verdict.{IsDecided};
-ghost use Rattle.lf_verdict.specs.Laws.{IsRunlessNo};
-ghost use Rattle.lf_verdict.specs.Unordered.{IsLegalAsAsked, IsVerdictAsAsked};
-ghost use Rattle.lf_verdict.specs.Final.{IsFinal};
+ghost use Rattle.lf_verdict.specs.declared.answer.Outcome.{Outcome};
+ghost use Rattle.lf_verdict.specs.Conclusion.{IsConclusion};
+ghost use Rattle.lf_verdict.specs.Final.{IsFinal, IsEarliest};
 ghost use Rattle.lf_verdict.specs.Named.{IsNamed, NoneBrokeSoFar};
 ghost use Rattle.lf_verdict.specs.Session.{refusal_of, stop_told, IsRefusalSoFar};
 ghost use Rattle.lf_verdict.specs.declared.stop.Stop.TheVariants as stops;
 
-use crate::answer::{Refusal, Verdict};
-use crate::laws::{no_has_no_run, ordered_yes_is_legal, yes_is_legal};
+use crate::answer::Refusal;
 use crate::session::ahead::Ahead;
+use crate::session::asked::Asked;
 use crate::session::breaking::Broken;
+use crate::session::conclusion::Conclusion;
 use lf_codec::Told;
 use lf_pool::{Gate, NoGate};
 use lf_rules::Shape;
@@ -33,9 +31,9 @@ const BATCH: usize = 16384;
 /// Judges a trace while its bytes come, as `Session` does. With more than one worker a thread reads the trace,
 /// another enters what was read into the logs, and as many as there are workers judge the banks, so that a
 /// refusal for memory may come with a later piece. One worker does all in one thread, and so do several as long as
-/// fewer bytes came than a batch of records has.
+/// fewer bytes came than a batch of records has, and where it is asked what broke first or for the statistics.
 ///
-/// It is ended by `finish` alone, so that no thread is left at work.
+/// It is ended by `conclude` alone, so that no thread is left at work.
 pub struct ParallelSession<G = NoGate> {
     ahead: Ahead<G>,
     fed: Fed,
@@ -59,50 +57,38 @@ impl<G> Model for ParallelSession<G> {
 }
 
 impl ParallelSession {
-    /// A session for the shape with so many workers, that was fed nothing. An order of the events is asked for.
-    pub fn for_shape(alloc: Global, shape: &Shape, workers: u32) -> ParallelSession
+    /// A session for the shape with so many workers, that was fed nothing.
+    pub fn asking(alloc: Global, shape: &Shape, workers: u32, asked: Asked) -> ParallelSession
         requires { IsShape shape.now }
         ensures shape { result.shape ≡ shape.now }
-        ensures ordered { result.asked.ordered ≡ true }
+        ensures asked { result.asked ≡ asked }
         ensures fresh { result.stop ≡ None }
         ensures fed { result.fed ≡ [] }
     {
-        ParallelSession::in_batches(alloc, shape, workers, BATCH, NoGate, true)
-    }
-
-    /// A session as that of `for_shape`, but no order is asked for, so that it may take less time and memory.
-    pub fn unordered(alloc: Global, shape: &Shape, workers: u32) -> ParallelSession
-        requires { IsShape shape.now }
-        ensures shape { result.shape ≡ shape.now }
-        ensures unordered { result.asked.ordered ≡ false }
-        ensures fresh { result.stop ≡ None }
-        ensures fed { result.fed ≡ [] }
-    {
-        ParallelSession::in_batches(alloc, shape, workers, BATCH, NoGate, false)
+        ParallelSession::in_batches(alloc, shape, workers, BATCH, NoGate, asked)
     }
 }
 
 impl<G: Gate + Sync + Send + Copy + 'static> ParallelSession<G> {
     /// A session for tests, which see by the gate who judges at once: a thread passes it before it judges a bank
     /// on the records of a batch. Records are judged once so many are read, 16,384 where nothing is said, and the first
-    /// ones, of 20 bytes for each record of a batch, one by one. No answer depends on any of it. Where it is `ordered`,
-    /// an order of the events is asked for.
+    /// ones, of 20 bytes for each record of a batch, one by one. No answer depends on any of it.
     pub fn in_batches(
         alloc: Global,
         shape: &Shape,
         workers: u32,
         batch: usize,
         gate: G,
-        ordered: bool,
+        asked: Asked,
     ) -> ParallelSession<G>
         requires { IsShape shape.now }
         ensures shape { result.shape ≡ shape.now }
-        ensures ordered { result.asked.ordered ≡ ordered }
+        ensures asked { result.asked ≡ asked }
         ensures fresh { result.stop ≡ None }
         ensures fed { result.fed ≡ [] }
     {
         ParallelSession {
-            ahead: Ahead::new(alloc, shape, workers, batch, gate, ordered),
+            ahead: Ahead::new(alloc, shape, workers, batch, gate, asked),
             fed: Fed::new(),
         }
     }
@@ -130,41 +116,37 @@ impl<G: Gate + Sync + Send + Copy + 'static> ParallelSession<G> {
     }
 
     /// What broke, where something did for which no bytes that follow lead to a yes, as `Session::broken` tells it. It
-    /// waits for the threads at work, and judges what waits. A part is told without a record, and of several that are
-    /// at fault the lowest port, or otherwise the lowest bank: so what is told depends on the bytes that were fed alone
-    /// (`one_is_named`), and not on the pieces in which they came or on the records that were judged together. Where
-    /// memory runs out, the session stops as after a refused `feed`. Once it is stopped nothing is told.
+    /// waits for the threads at work, and judges what waits. Where it was not asked what broke first, a part is told
+    /// without a record, and of several that are at fault the lowest port, or otherwise the lowest bank: so what is told
+    /// depends on the bytes that were fed alone (`one_is_named`), and not on the pieces in which they came or on the
+    /// records that were judged together. Where memory runs out, the session stops as after a refused `feed`. Once it
+    /// is stopped nothing is told.
     pub fn broken<R: Threads + Sync>(&mut self, rt: &R) -> Option<Broken>
         ensures shape { self.new.shape ≡ self.old.shape }
         ensures asked { self.new.asked ≡ self.old.asked }
         ensures fed { self.new.fed ≡ self.old.fed }
         ensures failed { IsSome self.old.stop → self.new.stop ≡ self.old.stop }
         ensures memory { self.old.stop ≡ None → IfSome self.new.stop (λ stop. stop ≡ stops.Memory) }
+        ensures watched { self.old.asked.watched ≡ true → self.new.stop ≡ self.old.stop }
         // What is told.
         ensures stopped { IsSome self.new.stop → result ≡ None }
         ensures stands { IfSome result (IsFinal self.old.shape self.old.fed) }
-        ensures named { IfSome result (IsNamed self.old.shape self.old.fed) }
+        ensures earliest { self.old.asked.watched ≡ true → IfSome result (IsEarliest self.old.shape self.old.fed) }
+        ensures named { self.old.asked.watched ≡ false → IfSome result (IsNamed self.old.shape self.old.fed) }
         ensures none { self.new.stop ≡ None → IfNone result (NoneBrokeSoFar self.old.shape self.old.fed) }
     {
         self.ahead.broken(rt)
     }
 
-    /// The verdict of the bytes that were fed: that of `check_shape`. A yes tells an order where one was asked for.
-    /// Otherwise the list is empty, and where each record of a bank came in the turn of its number no order is looked
-    /// for. After a refused `feed` it is that refusal.
-    pub fn finish<R: Threads + Sync>(self, rt: &R) -> Verdict
-        ensures legal { IsLegalAsAsked self.asked.ordered self.shape self.fed result }
-        ensures runless { IsRunlessNo self.shape self.fed result }
-        ensures verdict { IsDecided result → IsVerdictAsAsked self.asked.ordered self.shape 1 self.fed result }
-        ensures stopped { IfSome self.stop (λ stop. result ≡ Verdict.Refused (refusal_of stop)) }
-        ensures thread { ¬ (result ≡ Verdict.Refused Refusal.Thread) }
+    /// What is answered of the bytes that were fed, as `Session::conclude` tells it.
+    pub fn conclude<R: Threads + Sync>(self, rt: &R) -> Conclusion
+        ensures fed { result.fed.bytes ≡ self.fed }
+        ensures concluded { IsConclusion self.asked self.shape result }
+        ensures stopped { IfSome self.stop (λ stop. result.outcome ≡ Outcome.Refused (refusal_of stop)) }
     {
-        yes_is_legal();
-        ordered_yes_is_legal();
-        no_has_no_run();
-        let ParallelSession { mut ahead, fed: _ } = self;
-        let verdict = ahead.answer(rt);
+        let ParallelSession { mut ahead, fed } = self;
+        let conclusion = ahead.conclude(rt, fed);
         ahead.end();
-        verdict
+        conclusion
     }
 }

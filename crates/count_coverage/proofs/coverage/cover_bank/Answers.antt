@@ -45,9 +45,6 @@ held_counts-requires-clause-few g c =
           c.requires.short c.in-Ok.ensures.order,
     )
 
-pub counted-requires-clause-some_block : goal.counted-requires-clause-some_block
-counted-requires-clause-some_block g c = some_block c.args.shape.now.block c.requires.in_range.block_size
-
 pub counted-requires-clause-block : goal.counted-requires-clause-block
 counted-requires-clause-block g c = block_at_most_64 c.args.shape.now.block c.requires.in_range.block_size
 

@@ -2,6 +2,11 @@ use Rattle.std.proofs.lemmas.Result.{IfOk-weaker}
 use Rattle.explain_why.proofs.Split.{packed_below, packed_few, packed_lists}
 use Rattle.explain_why.proofs.logs.packed_logs_in.Goals as goal
 
+pub packed_in-requires : goal.packed_in-requires
+packed_in-requires c =
+    let is = c.requires.countable in
+    record { header = is.trace.header; memory = is.memory; records = is.trace.records; trace = is.trace.trace }
+
 pub split-requires-clause-logs : goal.split-requires-clause-logs
 split-requires-clause-logs c =
     let packing = c.in_ok-packing.ensures in

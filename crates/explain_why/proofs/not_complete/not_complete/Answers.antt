@@ -9,6 +9,11 @@ use Rattle.explain_why.proofs.not_complete.not_complete.Goals as goal
 no_record : Record
 no_record = record { log = 0; bank = 0; number = 0; event = events.Fence }
 
+pub packed_in-requires : goal.packed_in-requires
+packed_in-requires c =
+    let is = c.requires.incomplete in
+    record { header = is.trace.header; memory = is.memory; records = is.trace.records; trace = is.trace.trace }
+
 pub unreachable-requires : goal.unreachable-requires
 unreachable-requires c =
     request_waits c.args.shape.now c.args.bytes.now c.args.request c.requires.incomplete c.in_ok-records.field-0

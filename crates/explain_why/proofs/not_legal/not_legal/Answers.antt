@@ -4,6 +4,11 @@ use Rattle.explain_lines.specs.Marks.{told_by}
 use Rattle.explain_why.proofs.Records.{packing_fits, is_not_legal}
 use Rattle.explain_why.proofs.not_legal.not_legal.Goals as goal
 
+pub packed_in-requires : goal.packed_in-requires
+packed_in-requires c =
+    let is = c.requires.no in
+    record { header = is.trace.header; memory = is.memory; records = is.trace.records; trace = is.trace.trace }
+
 pub first_cause-requires-clause-fit : goal.first_cause-requires-clause-fit
 first_cause-requires-clause-fit c =
     packing_fits c.args.shape.now c.args.bytes.now c.args.fault.now c.requires.no c.in_ok-memory.field-0

@@ -6,7 +6,7 @@ use Rattle.explain_why.proofs.parts.read_all.Goals as goal
 pub loop-at-preserved : goal.loop-at-preserved
 loop-at-preserved c =
     let bytes = c.args.bytes.now in
-    let fed = c.in-Ok.ensures.ok _ _ _ c.loop-at.invariant.taken.read in
+    let fed = c.in_ok-feed.ensures _ _ _ c.loop-at.invariant.taken.read in
     let read = c.in_ok-take_records.ensures.taken _ _ (c.in_ok-take_memory.ensures.taken _ _ fed) in
     let within : c.min-end.result ≤ length bytes = search rules in
     let le : c.loop-at.at ≤ c.min-end.result = search rules in

@@ -1,4 +1,4 @@
-use Rattle.lf_verdict.proofs.Composed.{Laws, legal_by_parts}
+use Rattle.lf_verdict.proofs.Composed.{Laws, yes_is_legal}
 use Rattle.lf_verdict.proofs.laws.yes_is_legal.Goals as goal
 
 pub returns : goal.returns
@@ -14,4 +14,4 @@ returns c =
       interleave = c.orders_interleave.ensures.interleave;
       logs = c.skeletons_follow.ensures.logs;
       keep = c.skeletons_follow.ensures.numbers;
-    } in legal_by_parts laws
+    } in yes_is_legal laws

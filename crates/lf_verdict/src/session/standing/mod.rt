@@ -15,9 +15,9 @@ ghost use Rattle.lf_verdict.specs.inner.Coming.{MayCome, CanStand};
 mod bank_judge;
 mod log_entries;
 mod new;
+mod ordered;
 mod port_judge;
 mod statistics;
-mod unordered;
 mod verdict;
 
 use crate::session::breaking::{FirstBreak, PartFault, Upon, Watch};

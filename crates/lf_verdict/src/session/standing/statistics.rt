@@ -1,6 +1,6 @@
 //! The statistics of a trace whose records have all come.
 
-ghost use Rattle.std.specs.Prelude.{◌≡◌, ◌≤◌, ◌<◌, ℕ, true, List, length, slice_index, slice_index_or};
+ghost use Rattle.std.specs.Prelude.{◌≡◌, ◌<◌, ℕ, List, length, slice_index, slice_index_or};
 ghost use Rattle.std.specs.Prelude.{IfOk, IfSome, IsSome};
 ghost use Rattle.lf_rules.specs.declared.shape.Shape.{Shape};
 ghost use Rattle.lf_rules.specs.declared.event.Record.{Record};
@@ -10,15 +10,11 @@ ghost use Rattle.lf_stats.specs.Answer.{AreStats};
 ghost use Rattle.lf_stats.specs.Statistics.{unanswered};
 ghost use Rattle.lf_verdict.specs.declared.session.standing.bank_judge.BankJudge.{BankJudge};
 ghost use Rattle.lf_verdict.specs.declared.session.standing.port_judge.PortJudge.{PortJudge};
-ghost use Rattle.lf_verdict.specs.inner.Coming.{logs_so_far, IsShort, CanEnd};
+ghost use Rattle.lf_verdict.specs.inner.Coming.{logs_so_far, IsShort};
 ghost use Rattle.lf_verdict.specs.inner.Counting.{AreCountsOf};
-ghost use Rattle.lf_verdict.specs.inner.Ending.{IsLogsVerdict};
 ghost use Rattle.lf_verdict.specs.Parts.{PartsRun};
 ghost use Rattle.lf_verdict.specs.Standing.{Counts, StandsAfterAll};
-ghost use Rattle.lf_verdict.specs.Statistics.{IsYesVerdict};
 
-use crate::answer::{Refusal, Verdict};
-use crate::session::breaking::Counted;
 use crate::session::standing::Standing;
 use crate::session::standing::bank_judge::BankJudge;
 use crate::session::standing::port_judge::PortJudge;
@@ -59,7 +55,7 @@ fn port_counts(alloc: Global, ports: &[PortJudge]) -> Result<Vec<u32>, NoMemory>
 
 impl Standing {
     /// The statistics of the records so far, where each bank counts and the parts run.
-    fn statistics(&self, alloc: Global) -> Result<Option<Stats>, NoMemory>
+    pub(super) fn statistics(&self, alloc: Global) -> Result<Option<Stats>, NoMemory>
         ensures counted { (shape : Shape) (memory : FlatMemory) (records : List Record) →
             StandsAfterAll shape memory records self.now → IsShort shape records
             → PartsRun shape memory (logs_so_far shape records)
@@ -74,29 +70,5 @@ impl Standing {
         };
         let unanswered = port_counts(alloc, &self.entries.ports)?;
         Ok(Some(Stats { banks, unanswered }))
-    }
-
-    /// The verdict of the records so far, as those of a whole trace, and after a yes their statistics, where each bank
-    /// counts.
-    pub fn counted(&self, alloc: Global) -> Counted
-        requires end { CanEnd self.now }
-        requires kept { self.now.entries.keeps ≡ true }
-        ensures verdict { (shape : Shape) (memory : FlatMemory) (records : List Record) →
-            StandsAfterAll shape memory records self.now → IsShort shape records
-            → IsLogsVerdict shape memory (logs_so_far shape records) result.verdict }
-        ensures counted { (shape : Shape) (memory : FlatMemory) (records : List Record) →
-            StandsAfterAll shape memory records self.now → IsShort shape records
-            → IfSome result.stats (AreStats shape (logs_so_far shape records)) }
-        ensures told { Counts self.now → IsYesVerdict result.verdict → IsSome result.stats }
-        ensures yes { IsSome result.stats → IsYesVerdict result.verdict }
-    {
-        let verdict = self.judged(alloc).verdict;
-        let Verdict::Yes { .. } = &verdict else {
-            return Counted::of(verdict);
-        };
-        match self.statistics(alloc) {
-            Ok(stats) => Counted { verdict, stats },
-            Err(NoMemory) => Counted::of(Verdict::Refused(Refusal::Memory)),
-        }
     }
 }

@@ -1,42 +1,52 @@
-//! The verdict of a trace whose records have all come.
+//! What is answered of a trace whose records have all come.
 
-ghost use Rattle.std.specs.Prelude.{◌≡◌, ◌≤◌, ◌<◌, ℕ, true, List, length, None, IfOk, IfErr, OnOk, IfSome, IfNone};
+ghost use Rattle.std.specs.Prelude.{◌≡◌, ◌≤◌, ◌<◌, ℕ, true, List, length, None, IfOk, IfErr, OnOk, IsSome, IfSome};
+ghost use Rattle.std.specs.Prelude.{IfNone};
 ghost use Rattle.lf_rules.specs.declared.shape.Shape.{Shape};
 ghost use Rattle.lf_rules.specs.declared.event.Record.{Record};
 ghost use Rattle.lf_rules.specs.Address.{FlatMemory};
 ghost use Rattle.lf_logs.specs.Incomplete.{IsFirstIncomplete};
+ghost use Rattle.lf_verdict.specs.Outcome.{IsYesOutcome};
 ghost use Rattle.lf_verdict.specs.Parts.{PartsRun};
-ghost use Rattle.lf_verdict.specs.inner.Ending.{IsEnding, AreWholeBelow, IsOrderOf, IsLogsVerdict, IsLogsIncomplete};
+ghost use Rattle.lf_verdict.specs.inner.Ending.{IsEnding, AreWholeBelow};
+ghost use Rattle.lf_verdict.specs.inner.Judged.{IsLogsJudged};
 ghost use Rattle.lf_verdict.specs.inner.Coming.{logs_so_far, IsShort, CanEnd};
-ghost use Rattle.lf_verdict.specs.Standing.{StandsAfterAll, IsWatch, IsKnown};
+ghost use Rattle.lf_verdict.specs.Standing.{Counts, StandsAfterAll, IsWatch, IsKnown};
 ghost use Rattle.lf_verdict.specs.Breaking.{IsFaultOfPart, NoneBroke};
 ghost use Rattle.lf_verdict.specs.Named.{IsNamedFault};
 ghost use Rattle.lf_verdict.specs.inner.Noting.{IsPortWhole, IsBankWhole, IsOfLowestBank, IsPartBroken, NamesRecord};
 
-use crate::answer::{Fault, Verdict};
+use crate::answer::{Fault, Outcome};
 use crate::broken_part::{BrokenPart, first_broken};
 use crate::early_end::{Ending, number_ending};
-use crate::order::least_order;
 use crate::session::breaking::{Broken, FirstBreak, PartFault, Watch};
 use crate::session::standing::Standing;
 use lf_logs::Incomplete;
+use lf_stats::Stats;
 use std::alloc::Global;
 
-/// The verdict of the records that came, and after a yes the first request that has no reply.
+/// What is answered of the records that came.
 #[derive(Drop)]
 pub struct Judged {
-    pub verdict: Verdict,
+    pub outcome: Outcome,
+    /// After a yes the least order, where every entry is kept.
+    pub order: Option<Vec<u8>>,
+    /// After a yes the first request that has no reply.
     pub incomplete: Option<Incomplete>,
+    /// After a yes the statistics, where each bank counts.
+    pub statistics: Option<Stats>,
 }
 
 impl Judged {
-    /// Where no request without a reply is told.
-    pub fn of(verdict: Verdict) -> Judged
-        ensures { result ≡ record { verdict = verdict; incomplete = None } }
+    /// Where it is no yes.
+    pub fn of(outcome: Outcome) -> Judged
+        ensures { result ≡ record { outcome = outcome; order = None; incomplete = None; statistics = None } }
     {
         Judged {
-            verdict,
+            outcome,
+            order: None,
             incomplete: None,
+            statistics: None,
         }
     }
 }
@@ -84,23 +94,6 @@ impl Standing {
         Ok(())
     }
 
-    /// The least order of the logs. Numbers are judged first, then the ports, then the banks, then
-    /// whether the logs wait for one another.
-    fn judged_order(&self, alloc: Global) -> Result<Vec<u8>, Ending>
-        requires end { CanEnd self.now }
-        requires kept { self.now.entries.keeps ≡ true }
-        ensures order { (shape : Shape) (memory : FlatMemory) (records : List Record) →
-            StandsAfterAll shape memory records self.now → IsShort shape records
-            → IfOk result (λ order. IsOrderOf shape memory (logs_so_far shape records) order.items) }
-        ensures fault { (shape : Shape) (memory : FlatMemory) (records : List Record) →
-            StandsAfterAll shape memory records self.now → IsShort shape records
-            → IfErr result (IsEnding shape memory (logs_so_far shape records)) }
-    {
-        self.judge_numbers()?;
-        self.judge_rules()?;
-        least_order(alloc, &self.entries.logs)
-    }
-
     /// The lowest tag without a reply, of the lowest port that has one.
     fn first_incomplete(&self) -> Option<Incomplete>
         requires { length self.now.entries.ports.items ≤ 16 }
@@ -119,26 +112,40 @@ impl Standing {
         None
     }
 
-    /// The verdict of the records so far, as those of a whole trace, and after a yes the first request without a reply.
-    pub fn judged(&self, alloc: Global) -> Judged
-        requires end { CanEnd self.now }
-        requires kept { self.now.entries.keeps ≡ true }
-        ensures verdict { (shape : Shape) (memory : FlatMemory) (records : List Record) →
+    /// What is answered after a yes, or what ends the check before one.
+    fn judged_yes(&self, alloc: Global) -> Result<Judged, Ending>
+        requires { CanEnd self.now }
+        ensures judged { (shape : Shape) (memory : FlatMemory) (records : List Record) →
             StandsAfterAll shape memory records self.now → IsShort shape records
-            → IsLogsVerdict shape memory (logs_so_far shape records) result.verdict }
-        ensures incomplete { (shape : Shape) (memory : FlatMemory) (records : List Record) →
+            → IfOk result (IsLogsJudged shape memory (logs_so_far shape records)) }
+        ensures ordered { self.now.entries.keeps ≡ true → IfOk result (λ judged. IsSome judged.order) }
+        ensures counted { Counts self.now → IfOk result (λ judged. IsSome judged.statistics) }
+        ensures fault { (shape : Shape) (memory : FlatMemory) (records : List Record) →
             StandsAfterAll shape memory records self.now → IsShort shape records
-            → IsLogsIncomplete shape (logs_so_far shape records) result.verdict result.incomplete }
+            → IfErr result (IsEnding shape memory (logs_so_far shape records)) }
     {
-        match self.judged_order(alloc) {
-            Ok(order) => Judged {
-                verdict: Verdict::Yes {
-                    events: order.len() as u32,
-                    order,
-                },
-                incomplete: self.first_incomplete(),
-            },
-            Err(ending) => Judged::of(Verdict::from(ending)),
+        let (events, order) = self.in_order(alloc)?;
+        let statistics = self.statistics(alloc)?;
+        Ok(Judged {
+            outcome: Outcome::Yes { events },
+            order,
+            incomplete: self.first_incomplete(),
+            statistics,
+        })
+    }
+
+    /// What is answered of the records so far, as those of a whole trace.
+    pub fn judged(&self, alloc: Global) -> Judged
+        requires { CanEnd self.now }
+        ensures judged { (shape : Shape) (memory : FlatMemory) (records : List Record) →
+            StandsAfterAll shape memory records self.now → IsShort shape records
+            → IsLogsJudged shape memory (logs_so_far shape records) result }
+        ensures ordered { self.now.entries.keeps ≡ true → IsYesOutcome result.outcome → IsSome result.order }
+        ensures counted { Counts self.now → IsYesOutcome result.outcome → IsSome result.statistics }
+    {
+        match self.judged_yes(alloc) {
+            Ok(judged) => judged,
+            Err(ending) => Judged::of(Outcome::from(ending)),
         }
     }
 

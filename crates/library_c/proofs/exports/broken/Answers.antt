@@ -11,4 +11,5 @@ both s None final earliest = tt
 both s (Some found) final earliest = record { final = final; earliest = earliest }
 
 pub returns-clause-some : goal.returns-clause-some
-returns-clause-some c = both c.args.session.now c.broken.result c.broken.ensures.stands c.broken.ensures.earliest
+returns-clause-some c =
+    both c.args.session.now c.broken.result c.broken.ensures.stands (c.broken.ensures.earliest c.requires)

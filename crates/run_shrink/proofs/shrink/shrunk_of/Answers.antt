@@ -1,8 +1,21 @@
-use Rattle.std.proofs.Common.{◌≡◌, ℕ, length, rules, sym, subst, arith}
+use Rattle.std.proofs.Common.{◌≡◌, ℕ, List, length, rules, sym, subst, arith}
+use Rattle.lf_codec.specs.Trace.{IsTrace}
 use Rattle.run_shrink.specs.declared.broken.Wanted.{Wanted}
 use Rattle.run_shrink.specs.Shrunk.{Breaks}
 use Rattle.run_shrink.proofs.Larger.{breaks}
 use Rattle.run_shrink.proofs.shrink.shrunk_of.Goals as goal
+
+pub trace_in-requires : goal.trace_in-requires
+trace_in-requires g c =
+    let is = c.requires.outcome in
+    let same : c.deref.result.now ≡ c.args.bytes.items = search rules in
+    record {
+      header = is.trace.header;
+      memory = is.memory;
+      records = is.trace.records;
+      trace = subst (λ (bytes : List ℕ). IsTrace bytes is.trace.header is.memory is.trace.records) (sym same)
+          is.trace.trace;
+    }
 
 pub returns-clause-shrunk : goal.returns-clause-shrunk
 returns-clause-shrunk g c =
@@ -20,7 +33,7 @@ returns-clause-shrunk g c =
         records = c.in_ok-header.records.items;
         trace = search rules;
         count = events;
-        verdict = c.requires.verdict;
+        outcome = c.requires.outcome;
         is_wanted = record { rule = search rules; kind = search rules };
       };
       after = subst (λ (n : ℕ). Breaks shape wanted best.bytes.items best.fault n) (sym left)

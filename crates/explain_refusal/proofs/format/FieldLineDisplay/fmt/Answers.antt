@@ -1,7 +1,6 @@
-use Rattle.std.proofs.Common.{[], ◌∷◌, ◌++◌, length, sym}
+use Rattle.std.proofs.Common.{[], ◌∷◌, sym}
 use Rattle.std.proofs.Output.{has_written_of_eq}
 use Rattle.std.specs.Prelude.{codes}
-use Rattle.std.specs.Fmt.{decimal}
 use Rattle.explain_refusal.specs.Field.{field_text, value_text}
 use Rattle.explain_refusal.specs.Allowed.{allowed_text}
 use Rattle.explain_refusal.proofs.Grouped.{seven}

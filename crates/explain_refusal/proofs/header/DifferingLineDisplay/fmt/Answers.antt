@@ -1,4 +1,4 @@
-use Rattle.std.proofs.Common.{[], ◌∷◌, ◌++◌, length, sym}
+use Rattle.std.proofs.Common.{[], ◌∷◌, sym}
 use Rattle.std.proofs.Output.{has_written_of_eq}
 use Rattle.std.specs.Prelude.{codes}
 use Rattle.std.specs.Fmt.{decimal}

@@ -1,4 +1,4 @@
-use Rattle.std.proofs.Common.{◌≡◌, None, sym, ap, ◌∙◌, subst}
+use Rattle.std.proofs.Common.{ap, ◌∙◌, subst}
 use Rattle.std.specs.Prelude.{IfSome, IfNone}
 use Rattle.lf_verdict.specs.Seen.{Seen}
 use Rattle.lf_verdict.specs.Final.{IsFinal, IsEarliest}
@@ -11,9 +11,10 @@ returns-clause-stands c =
     (c.broken.ensures.stands c.self.inside.fed.bytes c.self.invariant.0)
 
 pub returns-clause-earliest : goal.returns-clause-earliest
-returns-clause-earliest c =
+returns-clause-earliest c watched =
     subst (λ (s : Seen). IfSome c.broken.result (IsEarliest s.shape s.fed)) c.self.view_is
-    (c.broken.ensures.earliest c.self.invariant.1.0 c.self.inside.fed.bytes c.self.invariant.0)
+    (c.broken.ensures.earliest c.self.invariant.1.0 (ap (λ (s : Seen). s.asked.watched) c.self.view_is ∙ watched)
+    c.self.inside.fed.bytes c.self.invariant.0)
 
 pub returns-clause-none : goal.returns-clause-none
 returns-clause-none c on =

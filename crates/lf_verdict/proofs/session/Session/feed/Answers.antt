@@ -14,7 +14,7 @@ pub invariant_of-self : goal.invariant_of-self
 invariant_of-self c = (
   subst (HasFed c.feed-answer.new.self) (sym c.add.ensures)
       (c.feed-answer.ensures.fed c.self.inside.fed.bytes c.self.invariant.0),
-  (c.feed-answer.ensures.in_turn c.self.invariant.1.0, c.feed-answer.ensures.settled c.self.invariant.1.1),
+  (c.feed-answer.ensures.as_asked c.self.invariant.1.0, c.feed-answer.ensures.settled c.self.invariant.1.1),
 )
 
 pub returns-clause-fine : goal.returns-clause-fine

@@ -1,8 +1,27 @@
-use Rattle.std.proofs.Common.{◌∙◌}
+use Rattle.std.proofs.Common.{◌≡◌, true, false, sym, ap, ◌∙◌}
+use Rattle.lf_verdict.specs.declared.session.asked.Asked.{Asked}
+use Rattle.lf_verdict.specs.declared.stop.Stop.TheVariants as stops
 use Rattle.lf_verdict.specs.inner.Ahead.{session_of}
 use Rattle.lf_verdict.proofs.Sessions.{going}
-use Rattle.lf_verdict.proofs.Aheads.{still_going, none_ahead}
+use Rattle.lf_verdict.proofs.Aheads.{still_going, none_ahead, idle_fed, watched_idle, idle_ahead, stopped_ahead}
 use Rattle.lf_verdict.proofs.session.ahead.Ahead.broken.Goals as goal
+
+pub broken-requires : goal.broken-requires
+broken-requires g c =
+    let a = c.args.self.now in
+    let bytes = c.requires.fed.0 in
+    (bytes, idle_fed a bytes (watched_idle a c.requires.ahead c.in-None.is c.if-self.true) c.requires.fed.1)
+
+pub returns-then-self-clause-found : goal.returns-then-self-clause-found
+returns-then-self-clause-found g c bytes fed =
+    let a = c.args.self.now in
+    let own = idle_fed a bytes (watched_idle a c.requires.ahead c.in-None.is c.if-self.true) fed in
+    record {
+      final = c.broken.ensures.stands bytes own;
+      earliest = λ watched. c.broken.ensures.earliest (c.requires.ahead.as_asked c.in-None.is) watched bytes own;
+      named = λ unwatched. let e : true ≡ false = sym c.if-self.true ∙ unwatched in absurd (cc);
+      none = λ on. c.broken.ensures.none (c.requires.ahead.settled c.if-self.true) on bytes own;
+    }
 
 pub returns-in-Ok-clause-fed : goal.returns-in-Ok-clause-fed
 returns-in-Ok-clause-fed g c bytes fed =
@@ -11,14 +30,22 @@ returns-in-Ok-clause-fed g c bytes fed =
     (still_going a.intake bytes (c.in-Ok.ensures.stop ∙ c.in-None.is)
     (c.in-Ok.ensures.taken bytes (going (session_of c.args.self.now) bytes c.in-None.is fed)))
 
-pub returns-in-Ok-clause-stands : goal.returns-in-Ok-clause-stands
-returns-in-Ok-clause-stands g c bytes fed =
-    c.in-Ok.ensures.stands bytes (going (session_of c.args.self.now) bytes c.in-None.is fed)
+pub returns-in-Ok-clause-found : goal.returns-in-Ok-clause-found
+returns-in-Ok-clause-found g c bytes fed =
+    let taken = going (session_of c.args.self.now) bytes c.in-None.is fed in
+    record {
+      final = c.in-Ok.ensures.stands bytes taken;
+      earliest = λ watched. let e : true ≡ false = sym watched ∙ c.if-self.false in absurd (cc);
+      named = λ _. c.in-Ok.ensures.named bytes taken;
+      none = λ _. c.in-Ok.ensures.none bytes taken;
+    }
 
-pub returns-in-Ok-clause-named : goal.returns-in-Ok-clause-named
-returns-in-Ok-clause-named g c bytes fed =
-    c.in-Ok.ensures.named bytes (going (session_of c.args.self.now) bytes c.in-None.is fed)
+pub returns-in-Ok-clause-ahead : goal.returns-in-Ok-clause-ahead
+returns-in-Ok-clause-ahead g c =
+    idle_ahead c.named.new.self c.in-Ok.ensures.alone c.in-Ok.ensures.ready c.in-Ok.ensures.as_asked
+    (λ watched. let e : true ≡ false = sym watched ∙ ap (λ (a : Asked). a.watched) c.in-Ok.ensures.asked
+    ∙ c.if-self.false in absurd (cc))
 
-pub returns-in-Ok-clause-none : goal.returns-in-Ok-clause-none
-returns-in-Ok-clause-none g c on bytes fed =
-    c.in-Ok.ensures.none bytes (going (session_of c.args.self.now) bytes c.in-None.is fed)
+pub returns-in-Err-clause-ahead : goal.returns-in-Err-clause-ahead
+returns-in-Err-clause-ahead g c =
+    stopped_ahead c.stop_with.new.self stops.Memory c.stop_with.ensures.stopped c.stop_with.ensures.alone

@@ -19,7 +19,7 @@ loop-at-init c = record {
   shape = refl;
   asked = refl;
   going = c.in_default.is;
-  in_turn = λ turn. turn;
+  as_asked = λ does. does;
   settled = λ settled. settled;
   fed = λ bytes fed. fed_nothing c.args.self.now bytes fed;
 }
@@ -38,7 +38,7 @@ loop-at-preserved c = record {
   asked = c.in-Ok.ensures.asked ∙ c.loop-at.invariant.asked;
   going = told_going c.loop-at.self.stop c.feed_part.new.self.stop c.loop-at.invariant.going
       (sym c.in-Ok.ensures.told);
-  in_turn = λ turn. c.in-Ok.ensures.in_turn (c.loop-at.invariant.in_turn turn);
+  as_asked = λ does. c.in-Ok.ensures.as_asked (c.loop-at.invariant.as_asked does);
   settled = λ _. c.in-Ok.ensures.settled;
   fed = λ bytes fed. fed_more c.feed_part.new.self bytes c.args.piece.now c.loop-at.at c.in-Ok.n
       (c.in-Ok.ensures.fed (bytes ++ take c.loop-at.at c.args.piece.now) (c.loop-at.invariant.fed bytes fed));

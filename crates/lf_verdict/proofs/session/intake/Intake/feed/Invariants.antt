@@ -1,5 +1,5 @@
 use Rattle.std.proofs.Common.{◌≡◌, ◌≤◌, ◌-◌, ◌++◌, ℕ, List, length, take, None}
-use Rattle.lf_verdict.specs.inner.Fed.{HasFed, IsInTurn}
+use Rattle.lf_verdict.specs.inner.Fed.{HasFed, IsAsAsked}
 use Rattle.lf_verdict.specs.inner.Taking.{IsSettled}
 use Rattle.lf_verdict.proofs.session.intake.Intake.feed.Given as goal
 
@@ -9,7 +9,7 @@ invariant-loop-at l = record {
   shape : l.self.shape ≡ l.fn.self.shape;
   asked : l.self.asked ≡ l.fn.self.asked;
   going : l.self.stop ≡ None;
-  in_turn : IsInTurn l.fn.self → IsInTurn l.self;
+  as_asked : IsAsAsked l.fn.self → IsAsAsked l.self;
   settled : IsSettled l.fn.self → IsSettled l.self;
   fed : (bytes : List ℕ) → HasFed l.fn.self bytes → HasFed l.self (bytes ++ take l.at l.piece);
 }

@@ -15,8 +15,8 @@ returns-in-Err-clause-fed c fed has =
     let behind = drop c.min-n.result c.args.bytes.now in
     let m = going s fed c.requires.going has in
     let stopped : Intake = record s { reader = c.feed.new.self; stop = Some c.from.result } in
-    let at = read_stop stopped s.reader.fault c.feed.new.self (fed ++ front) s.memory.items m.0 c.in-Err.told
-    c.from.result m.1.fine (sym c.in-Err.ensures.told) (c.in-Err.ensures.pieces fed s.memory.items m.0 m.1.read)
+    let at = read_stop stopped s.reader.fault c.feed.new.self (fed ++ front) m.1.taken m.0 c.in-Err.told
+    c.from.result m.1.fine (sym c.in-Err.ensures.told) (c.in-Err.ensures.pieces fed m.1.taken m.0 m.1.read)
     c.from.ensures in
     let stays = stop_stays c.faults_stand.ensures stopped (fed ++ front) behind c.from.result
     (IsBytes-drop c.min-n.result c.args.bytes.now (λ i. omega (arith, c.type_inv.bytes i))) at in
@@ -35,7 +35,7 @@ take_all-requires c =
       (
         m.0,
         judged_feed c.header_of_bytes.ensures s fed front m.0 c.feed.new.self m.1
-            (c.in_default.ensures.ok fed s.memory.items m.0 m.1.read)
+            (c.in_default.ensures.ok fed m.1.taken m.0 m.1.read)
             (told_fine s.reader.fault c.feed.new.self.fault m.1.fine (sym c.in_default.ensures.told)),
       ),
     )
@@ -46,7 +46,7 @@ returns-in-Ok-clause-fed c fed has =
     let front = take c.min-n.result c.args.bytes.now in
     let m = going s fed c.requires.going has in
     let judged = judged_feed c.header_of_bytes.ensures s fed front m.0 c.feed.new.self m.1
-    (c.in_default.ensures.ok fed s.memory.items m.0 m.1.read)
+    (c.in_default.ensures.ok fed m.1.taken m.0 m.1.read)
     (told_fine s.reader.fault c.feed.new.self.fault m.1.fine (sym c.in_default.ensures.told)) in
     subst (λ (stop : Option Stop). HasFedUntil c.take_all.new.self (fed ++ front) stop)
     (sym (c.in-Ok.ensures.stop ∙ c.requires.going)) (c.in-Ok.ensures.taken (fed ++ front) (m.0, judged))

@@ -1,7 +1,7 @@
-use Rattle.std.proofs.Common.{sym, ap, ◌∙◌, subst}
+use Rattle.std.proofs.Common.{ap, ◌∙◌, subst}
 use Rattle.std.specs.Prelude.{IfSome, IfNone}
 use Rattle.lf_verdict.specs.Seen.{Seen}
-use Rattle.lf_verdict.specs.Final.{IsFinal}
+use Rattle.lf_verdict.specs.Final.{IsFinal, IsEarliest}
 use Rattle.lf_verdict.specs.Named.{IsNamed, NoneBrokeSoFar}
 use Rattle.lf_verdict.proofs.session.parallel.ParallelSession.broken.Goals as goal
 
@@ -11,14 +11,21 @@ invariant_of-self g c = (c.broken.ensures.fed c.self.inside.fed.bytes c.self.inv
 pub returns-clause-stands : goal.returns-clause-stands
 returns-clause-stands g c =
     subst (λ (s : Seen). IfSome c.broken.result (IsFinal s.shape s.fed)) c.self.view_is
-    (c.broken.ensures.stands c.self.inside.fed.bytes c.self.invariant.0)
+    (c.broken.ensures.found c.self.inside.fed.bytes c.self.invariant.0).final
+
+pub returns-clause-earliest : goal.returns-clause-earliest
+returns-clause-earliest g c watched =
+    subst (λ (s : Seen). IfSome c.broken.result (IsEarliest s.shape s.fed)) c.self.view_is
+    ((c.broken.ensures.found c.self.inside.fed.bytes c.self.invariant.0).earliest
+    (ap (λ (s : Seen). s.asked.watched) c.self.view_is ∙ watched))
 
 pub returns-clause-named : goal.returns-clause-named
-returns-clause-named g c =
+returns-clause-named g c unwatched =
     subst (λ (s : Seen). IfSome c.broken.result (IsNamed s.shape s.fed)) c.self.view_is
-    (c.broken.ensures.named c.self.inside.fed.bytes c.self.invariant.0)
+    ((c.broken.ensures.found c.self.inside.fed.bytes c.self.invariant.0).named
+    (ap (λ (s : Seen). s.asked.watched) c.self.view_is ∙ unwatched))
 
 pub returns-clause-none : goal.returns-clause-none
 returns-clause-none g c on =
     subst (λ (s : Seen). IfNone c.broken.result (NoneBrokeSoFar s.shape s.fed)) c.self.view_is
-    (c.broken.ensures.none on c.self.inside.fed.bytes c.self.invariant.0)
+    ((c.broken.ensures.found c.self.inside.fed.bytes c.self.invariant.0).none on)

@@ -12,8 +12,8 @@ use Rattle.lf_verdict.specs.Standing.{StandsAfterAll}
 use Rattle.lf_verdict.specs.inner.Coming.{logs_so_far, AreAllKept, IsShort}
 use Rattle.lf_verdict.specs.inner.Ending.{AreWholeBelow}
 use Rattle.lf_verdict.proofs.Settled.{few_logs, skeletons_short, skeletons_whole}
+use Rattle.lf_verdict.proofs.Skeletons.{order_len}
 use Rattle.lf_verdict.proofs.Standings.{skeletons_count}
-use Rattle.lf_verdict.proofs.Unordered.{all_taken}
 use Rattle.lf_verdict.proofs.session.standing.Standing.count_in_order.Goals as goal
 
 pub returns-in_err-judge_numbers-clause-fault : goal.returns-in_err-judge_numbers-clause-fault
@@ -87,7 +87,7 @@ returns-in-Ok-clause-order c shape memory records stands short =
       order = found.0;
       is_order = found.1;
       count = c.count.ensures logs (are_all_kept shape memory records s stands short)
-          ∙ all_taken logs found.0 found.1;
+          ∙ sym (order_len logs found.0 found.1.entries found.1.taken);
     }
 
 pub returns-in-Err-clause-fault : goal.returns-in-Err-clause-fault

@@ -1,0 +1,4 @@
+-- Which text is due for each thing that can be asked here.
+pub mod Cover
+pub mod Explain
+pub mod Json

@@ -1,0 +1,113 @@
+//! Why the verdict is what it is.
+
+ghost use Rattle.std.specs.Prelude.{◌≡◌, ◌∷◌, ◌++◌, IfOk, string_bytes};
+ghost use Rattle.explain_lines.specs.Marks.{told_by};
+ghost use Rattle.explain_why.specs.Why.{why_text};
+ghost use Rattle.run_engine.specs.Line.{line_text};
+ghost use Rattle.run_report.specs.Explain.{told_if, answer_text};
+
+use explain_why::{Asked, Judgement, WhyText, why_of};
+use lf_rules::{NoMemory, Shape};
+use lf_verdict::{Conclusion, Incomplete, Outcome};
+use run_engine::{Ask, Line, Needs, no_memory_line, not_read_line, outcome_line};
+use std::alloc::Global;
+
+/// Why the verdict is what it is. The line of the verdict is written, an empty line, and then why:
+///
+/// - of a no, where a record of a port or of a bank breaks a rule: that record, what the rule asks, what the record has
+///   to carry and carries where the rule is about that, the state that the rule is about, and the last records before
+///   it that matter, at most so many; where the numbers of a bank give no order, the records with the number or beside
+///   it; where logs wait for one another, the records that wait and those that they wait for; and what broke first,
+///   where that is something else;
+/// - of a yes, what the trace used at most of what the configuration has; or, where complete traces are asked for and a
+///   request has no reply, the first such request and the last records of its bank at its block, behind the line of
+///   that request in the place of the verdict's;
+/// - of bytes that are no trace, the field that fails, and what it may have;
+/// - of a trace of another hierarchy, the numbers that differ.
+///
+/// A record is told with its time where there is one. Of a refused configuration nothing is told.
+#[derive(Clone, Copy)]
+pub struct Explain<'a> {
+    pub asked: Asked<'a>,
+}
+
+/// The request without a reply that is told, where complete traces are asked for.
+pub fn told_if(complete: bool, found: Option<Incomplete>) -> Option<Incomplete>
+    ensures { result ≡ told_if complete found }
+{
+    if complete { found } else { None }
+}
+
+/// The line of a request without a reply, or otherwise that of the verdict.
+pub fn line_for(outcome: &Outcome, found: Option<Incomplete>) -> Line<'_>
+    ensures { line_text result ≡ answer_text outcome.now found }
+{
+    match found {
+        Some(request) => Line::Incomplete(request),
+        None => Line::Concluded(outcome),
+    }
+}
+
+/// A line, and after an empty line why.
+fn behind_line(alloc: Global, line: Line<'_>, why: WhyText<'_>) -> Result<String, NoMemory>
+    ensures { IfOk result (λ text. string_bytes text
+        ≡ line_text line.entry ++ 10 ∷ 10 ∷ why_text why.entry.shape.now why.entry.bytes.now why.entry.why.now) }
+{
+    Ok(format!(in alloc; "{line}\n\n{why}")?)
+}
+
+impl Ask for Explain<'_> {
+    ghost use Rattle.run_engine.specs.Line.{not_read_line};
+    ghost use Rattle.run_engine.specs.Needs.{bytes_needs};
+    ghost use Rattle.run_report.specs.Explain.{IsExplained};
+    ghost use Rattle.std.specs.Prelude.{true};
+
+    ghost needs_of = { λ _. bytes_needs true };
+
+    ghost is_due = { λ ask shape conclusion text. IsExplained (told_by ask.asked.times) ask.asked.most ask.asked.complete
+        shape conclusion text };
+
+    ghost lost = { not_read_line };
+
+    fn needs(&self) -> Needs {
+        Needs::bytes(true)
+    }
+
+    fn text(
+        &self,
+        alloc: Global,
+        shape: &Shape,
+        bytes: &[u8],
+        conclusion: &Conclusion,
+    ) -> Result<String, NoMemory> {
+        let judged = Judgement {
+            outcome: &conclusion.outcome,
+            earliest: &conclusion.broken,
+            incomplete: told_if(self.asked.complete, conclusion.incomplete),
+        };
+        match why_of(alloc, shape, bytes, &judged, &self.asked)? {
+            Some(why) => {
+                let line = line_for(judged.outcome, judged.incomplete);
+                let text = WhyText {
+                    shape,
+                    bytes,
+                    why: &why,
+                };
+                behind_line(alloc, line, text)
+            }
+            None => outcome_line(alloc, judged.outcome),
+        }
+    }
+
+    fn refused(&self, alloc: Global, conclusion: &Conclusion) -> Result<String, NoMemory> {
+        outcome_line(alloc, &conclusion.outcome)
+    }
+
+    fn no_memory(&self) -> &'static [u8] {
+        no_memory_line()
+    }
+
+    fn not_read(&self) -> &'static [u8] {
+        not_read_line()
+    }
+}
