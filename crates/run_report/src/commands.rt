@@ -13,9 +13,9 @@ ghost use Rattle.run_report.specs.Cover.{IsCovered};
 ghost use Rattle.run_report.specs.Explain.{IsExplained};
 ghost use Rattle.run_report.specs.Json.{bare, IsJson};
 
+use crate::as_json::Json;
 use crate::cover::{Cover, CoverageForm};
 use crate::explain::Explain;
-use crate::json::Json;
 use explain_why::Asked;
 use lf_verdict::Conclusion;
 use run_engine::{Counted, RunFault, run_for};

@@ -5,13 +5,13 @@
 //! `Explain` and `Json` are what is asked of `run_on`.
 #![tactic(auto)]
 
+mod as_json;
 mod commands;
 mod cover;
 mod explain;
-mod json;
 
+pub use as_json::Json;
 pub use commands::{run_cover, run_cover_data, run_explain, run_explain_json};
 pub use cover::{Cover, CoverageForm};
 pub use explain::Explain;
 pub use explain_why::Asked;
-pub use json::Json;

@@ -2,7 +2,7 @@ use Rattle.std.proofs.Common.{◌≡◌, Option, refl, sym, subst}
 use Rattle.lf_logs.specs.declared.incomplete.Incomplete.{Incomplete}
 use Rattle.explain_why.specs.Why.{IsJudgement}
 use Rattle.run_report.proofs.ExplainLemmas.{judgement}
-use Rattle.run_report.proofs.json.JsonAsk.text.Goals as goal
+use Rattle.run_report.proofs.as_json.JsonAsk.text.Goals as goal
 
 pub why_of-requires-clause-judged : goal.why_of-requires-clause-judged
 why_of-requires-clause-judged c =
