@@ -4,7 +4,8 @@ use Rattle.lf_rules.specs.declared.event.Event.TheVariants.{Issue, Reply, Fence,
 use Rattle.lf_rules.specs.declared.event.Event.TheVariants.{Evict1, SecondHit, SecondPrimary, SecondMerge}
 use Rattle.lf_rules.specs.declared.event.Event.TheVariants.{SecondStall, Fill2, Evict2}
 use Rattle.bank_events.specs.Agrees.{BreaksAlike}
-use Rattle.bank_events.proofs.Breaks.{breaks_issue, breaks_reply, breaks_fence, breaks_hit, breaks_primary, breaks_merge}
+use Rattle.bank_events.proofs.Breaks.{breaks_issue, breaks_reply, breaks_fence, breaks_hit, breaks_primary}
+use Rattle.bank_events.proofs.Breaks.{breaks_merge}
 use Rattle.bank_events.proofs.Breaks.{breaks_stall, breaks_fill1, breaks_evict1}
 use Rattle.bank_events.proofs.BreaksSecond.{breaks_second_hit, breaks_second_primary, breaks_second_merge}
 use Rattle.bank_events.proofs.BreaksSecond.{breaks_second_stall, breaks_fill2, breaks_evict2}

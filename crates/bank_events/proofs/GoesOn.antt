@@ -4,7 +4,8 @@ use Rattle.lf_rules.specs.declared.event.Event.TheVariants.{Issue, Reply, Fence,
 use Rattle.lf_rules.specs.declared.event.Event.TheVariants.{Evict1, SecondHit, SecondPrimary, SecondMerge}
 use Rattle.lf_rules.specs.declared.event.Event.TheVariants.{SecondStall, Fill2, Evict2}
 use Rattle.bank_events.specs.Agrees.{GoesOnAlike}
-use Rattle.bank_events.proofs.AfterPort.{after_issue, after_reply, after_hit, after_stall, after_second_stall, after_fence}
+use Rattle.bank_events.proofs.AfterPort.{after_issue, after_reply, after_hit, after_stall, after_second_stall}
+use Rattle.bank_events.proofs.AfterPort.{after_fence}
 use Rattle.bank_events.proofs.AfterMiss.{after_primary, after_merge}
 use Rattle.bank_events.proofs.AfterFirst.{after_fill1, after_evict1}
 use Rattle.bank_events.proofs.AfterAsked.{after_second_hit, after_second_primary, after_second_merge}

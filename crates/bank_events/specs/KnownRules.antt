@@ -19,7 +19,8 @@ use Rattle.lf_rules.specs.Registers.{has_room, primary_clauses, merge_clauses}
 use Rattle.lf_rules.specs.Run.{first_failing}
 use Rattle.lf_rules.specs.Table.{oldest, is_head, is_ready_for, first_ready, destination, destinations, destinations2}
 use Rattle.lf_rules.specs.Table.{position, position2}
-use Rattle.bank_events.specs.Known.{Known, is_present, is_absent, is_asking, is_supplied, register_of, is_second_present}
+use Rattle.bank_events.specs.Known.{Known, is_present, is_absent, is_asking, is_supplied, register_of}
+use Rattle.bank_events.specs.Known.{is_second_present}
 use Rattle.bank_events.specs.Known.{is_second_in_flight}
 
 -- the sets of a block in level one and of a second-level block in level two

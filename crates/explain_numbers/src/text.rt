@@ -3,7 +3,8 @@
 ghost use Rattle.std.specs.Prelude.{Some};
 ghost use Rattle.explain_history.specs.Touching.{record_at};
 ghost use Rattle.explain_lines.specs.Marks.{besides};
-ghost use Rattle.explain_numbers.specs.Text.{nearest_text, log_text, number_line, log_line, by_number_text, by_log_text};
+ghost use Rattle.explain_numbers.specs.Text.{nearest_text, log_text, number_line, log_line, by_number_text};
+ghost use Rattle.explain_numbers.specs.Text.{by_log_text};
 ghost use Rattle.explain_numbers.specs.Text.{wait_text, waits_text, first_text, double_text, missing_text, cycle_text};
 ghost use Rattle.explain_numbers.specs.Text.{reason_text};
 

@@ -6,8 +6,10 @@ use Rattle.lf_rules.specs.Address.{set1_of, set2_of}
 use Rattle.explain_origins.specs.declared.parts.StatePart.{StatePart}
 use Rattle.explain_origins.specs.declared.parts.StatePart.TheVariants as parts
 use Rattle.explain_origins.specs.declared.requests.AcceptedRequest.{AcceptedRequest}
-use Rattle.explain_origins.specs.Events.{fill1_block, evict1_block, fill2_second, evict2_second, miss1_block, miss2_second}
-use Rattle.explain_origins.specs.Events.{issued_tag, accepted_tag, replied_tag, only, either, within, in_register, cleared_by}
+use Rattle.explain_origins.specs.Events.{fill1_block, evict1_block, fill2_second, evict2_second, miss1_block}
+use Rattle.explain_origins.specs.Events.{miss2_second}
+use Rattle.explain_origins.specs.Events.{issued_tag, accepted_tag, replied_tag, only, either, within, in_register}
+use Rattle.explain_origins.specs.Events.{cleared_by}
 use Rattle.explain_origins.specs.Events.{store_of_byte, stored_block, written_back}
 
 -- the block, where it is in this set

@@ -4,7 +4,8 @@ ghost use Rattle.std.specs.Prelude.{◌≡◌, ◌<◌};
 ghost use Rattle.explain_origins.specs.Events.{fill1_block, evict1_block, fill2_second, evict2_second};
 ghost use Rattle.explain_origins.specs.Events.{miss1_block, miss2_second, within, either, only, writes_byte};
 ghost use Rattle.explain_origins.specs.Events.{store_of_byte, stored_block, written_back, tag_at};
-ghost use Rattle.explain_origins.specs.Events.{issued_tag, accepted_tag, replied_tag, named_register, in_register, cleared_by};
+ghost use Rattle.explain_origins.specs.Events.{issued_tag, accepted_tag, replied_tag, named_register, in_register};
+ghost use Rattle.explain_origins.specs.Events.{cleared_by};
 
 use crate::requests::AcceptedRequest;
 use lf_rules::{Event, Record, Shape};

@@ -5,7 +5,8 @@ ghost use Rattle.lf_rules.specs.Fits.{is_block_size};
 ghost use Rattle.lf_codec.specs.Checks.{is_of_port};
 ghost use Rattle.explain_refusal.specs.Finding.{range_finding, log_finding, bank_finding, second_of, block_field};
 ghost use Rattle.explain_refusal.specs.Finding.{is_logs_bank, logs_bank, blocks_bank, owner_finding};
-ghost use Rattle.explain_refusal.specs.Finding.{zero_finding, end_finding, reserved_finding, size_finding, block_finding};
+ghost use Rattle.explain_refusal.specs.Finding.{zero_finding, end_finding, reserved_finding, size_finding};
+ghost use Rattle.explain_refusal.specs.Finding.{block_finding};
 ghost use Rattle.explain_refusal.specs.Finding.{fits_block, wide_mask, mask_finding};
 ghost use Rattle.explain_refusal.specs.Finding.{kind_finding, limit_finding, finding_of};
 

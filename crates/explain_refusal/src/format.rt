@@ -1,7 +1,8 @@
 //! The text of a fault of a trace's bytes.
 
 ghost use Rattle.std.specs.Prelude.{◌≡◌, drop, Some};
-ghost use Rattle.explain_refusal.specs.Format.{block_before, part_line, has_text, field_line, lengths_line, behind_text};
+ghost use Rattle.explain_refusal.specs.Format.{block_before, part_line, has_text, field_line, lengths_line};
+ghost use Rattle.explain_refusal.specs.Format.{behind_text};
 ghost use Rattle.explain_refusal.specs.Format.{found_text, refusal_text};
 
 use crate::allowed::Allowed;

@@ -15,8 +15,8 @@ use Rattle.explain_replay.specs.Addresses.{addresses_of, due_addresses}
 use Rattle.explain_replay.specs.Named.{blocks_of, AreNamed}
 use Rattle.explain_replay.specs.Request.{requested}
 
--- This is told of a record that breaks a rule in this state, where its request is at this address: what the rule asks of
--- it, the addresses of its bytes and of those that it has to carry, and what the state has of its blocks.
+-- This is told of a record that breaks a rule in this state, where its request is at this address: what the rule asks
+-- of it, the addresses of its bytes and of those that it has to carry, and what the state has of its blocks.
 pub record IsTold (broken : Broken) (first : Rule) (request : Option ℕ) (r : Record) (shape : Shape) (now : Local)
     : Type 0 where
   pub number : broken.number ≡ r.number

@@ -50,7 +50,8 @@ IsWanted due _ register = due ≡ None
 -- bytes of memory, off the bytes of waiting stores or under the mask, and of an eviction the dirty mask of the line.
 -- Other rules ask nothing of the kind.
 abbrev pub IsExpected : Option Expected → Rule → ℕ → Event → Shape → Local → Type 0
-IsExpected due ReplySize log (Reply tag size bytes) shape now = IsSize due (length (first_ready now.slice.ready log tag))
+IsExpected due ReplySize log (Reply tag size bytes) shape now =
+    IsSize due (length (first_ready now.slice.ready log tag))
 IsExpected due WrongRegister log (Primary port tag register) shape now =
     IsWanted due shape.level1.organisation (destination shape port tag)
 IsExpected due WrongRegister log (Merge port tag register) shape now =

@@ -77,8 +77,8 @@ abbrev pub beyond_line : List ℕ → List Mask → List ℕ → List ℕ → Li
 beyond_line label masks others addresses =
     codes "  " ++ label ++ masks_text masks ++ addresses_text others addresses ++ 10 ∷ []
 
--- the masks that are due, those that were found, and which of their bytes are too many and too few, with their addresses:
--- the bytes that are due have some, and those that were found have some
+-- the masks that are due, those that were found, and which of their bytes are too many and too few, with their
+-- addresses: the bytes that are due have some, and those that were found have some
 abbrev pub masks_lines : Masks → Masks → List ℕ → List ℕ → List ℕ
 masks_lines due found due_addresses addresses =
     mask_line (codes "expected") due.items ++ mask_line (codes "found   ") found.items

@@ -30,7 +30,8 @@ wrong_byte (Some _) addresses event = None
 
 abbrev pub value_at : Option Expected → Event → Option ℕ
 value_at None event = None
-value_at (Some (expected.Bytes due)) event = slice_get (data_of event) (common_prefix_len nat_eq due.items (data_of event))
+value_at (Some (expected.Bytes due)) event =
+    slice_get (data_of event) (common_prefix_len nat_eq due.items (data_of event))
 value_at (Some _) event = None
 
 abbrev pub wrong_address : Option Broken → Event → Option ℕ

@@ -3,7 +3,8 @@
 ghost use Rattle.std.specs.Prelude.{◌≡◌, IfOk};
 ghost use Rattle.lf_rules.specs.InRange.{IsShape};
 ghost use Rattle.explain_history.specs.Touching.{record_at};
-ghost use Rattle.explain_rule.specs.Origins.{wrong_byte, wrong_address, value_at, wrong_value, first_block, named_address};
+ghost use Rattle.explain_rule.specs.Origins.{wrong_byte, wrong_address, value_at, wrong_value, first_block};
+ghost use Rattle.explain_rule.specs.Origins.{named_address};
 ghost use Rattle.explain_rule.specs.Origins.{fault_address, AreOriginsAt, before_in_bank, AreFurtherAt};
 ghost use Rattle.explain_origins.specs.Further.{AreFurther};
 

@@ -6,8 +6,8 @@
 //! differ. `WhyText` is its text. `specs/` says which records are told of, and each text exactly.
 //!
 //! It also reads what stands in the bytes of a trace. `parts_in` and `records_in` read any bytes, as far as these are a
-//! trace. `trace_in` reads a trace, with its header. `packed_in` reads a trace and keeps its records in the form of their
-//! bytes, and `packed_logs_in` also splits them into the logs of a trace that was found legal.
+//! trace. `trace_in` reads a trace, with its header. `packed_in` reads a trace and keeps its records in the form of
+//! their bytes, and `packed_logs_in` also splits them into the logs of a trace that was found legal.
 #![tactic(auto)]
 
 mod cause;

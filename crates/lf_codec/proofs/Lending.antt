@@ -1,5 +1,6 @@
 -- A record that is lent where its parts stand.
-use Rattle.std.proofs.Common.{◌≡◌, ℕ, zero, suc, ◌*◌, List, [], ◌∷◌, ◌++◌, length, take, drop, refl, sym, ap, subst, ◌∙◌}
+use Rattle.std.proofs.Common.{◌≡◌, ℕ, zero, suc, ◌*◌, List, [], ◌∷◌, ◌++◌, length, take, drop, refl, sym, ap, subst}
+use Rattle.std.proofs.Common.{◌∙◌}
 use Rattle.std.proofs.Common.{arith, append_assoc, Option, Some, None}
 use Rattle.std.proofs.lemmas.List.{take_at, drop_at}
 use Rattle.std.specs.Prelude.{◌/◌, IfSome, IfNone}
@@ -174,8 +175,8 @@ lends_part r new bytes n item into can sound fits rest =
     ∙ ap (λ (rs : List Record). record r { progress = counted r.progress n item.log; records = rs }) moved in
     let range = range_at r.progress into.stage sound in
     record {
-      takes = taken_at_once r (with_record (Some item) new) bytes item n can.fine can.between into.stage into.whole sound
-          same;
+      takes = taken_at_once r (with_record (Some item) new) bytes item n can.fine can.between into.stage into.whole
+          sound same;
       spelled = whole_spelled r.progress bytes item n into.whole range fits;
       fits = whole_fits r.progress bytes item n into.whole range fits;
       rest = rest;

@@ -1,5 +1,6 @@
 -- Records that are kept where they stand: more bytes change none of them.
-use Rattle.std.proofs.Common.{◌≡◌, ℕ, zero, suc, ◌+◌, ◌<◌, ◌≤◌, get_or, List, [], ◌∷◌, ◌++◌, length, take, drop, refl, sym, ap, subst, ◌∙◌}
+use Rattle.std.proofs.Common.{◌≡◌, ℕ, zero, suc, ◌+◌, ◌<◌, ◌≤◌, get_or, List, [], ◌∷◌, ◌++◌, length, take, drop, refl}
+use Rattle.std.proofs.Common.{sym, ap, subst, ◌∙◌}
 use Rattle.std.proofs.Common.{arith, append_assoc}
 use Rattle.std.proofs.Common.{Result, Ok, Err, Option, Some, None, inl, inr}
 use Rattle.std.specs.Prelude.{slice_index, IfOk, IfSome, OnOk}
@@ -32,7 +33,8 @@ slice_stays bytes more at len fits =
 
 form_stays : (h : Header) (bytes more : List ℕ) (form : Form) → IsWithin h bytes form →
     form_record h (bytes ++ more) form ≡ form_record h bytes form
-form_stays h bytes more (forms.Spelled start len) within = ap (spelled_record h) (slice_stays bytes more start len within.0)
+form_stays h bytes more (forms.Spelled start len) within =
+    ap (spelled_record h) (slice_stays bytes more start len within.0)
 form_stays h bytes more (forms.Apart r) within = refl
 
 within_stays : (h : Header) (bytes more : List ℕ) (form : Form) → IsWithin h bytes form →

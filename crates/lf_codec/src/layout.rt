@@ -78,8 +78,8 @@ pub(crate) fn lend_front<'a>(header: &Header, bytes: &'a [u8], place: &mut Recor
     lend_parts(header, head_at(first), rest, place);
 }
 
-/// Lends the record at the front of these bytes as `lend_front` does, by code that serves all kinds. So `lend_parts` has
-/// one caller, and is compiled into it.
+/// Lends the record at the front of these bytes as `lend_front` does, by code that serves all kinds. So `lend_parts`
+/// has one caller, and is compiled into it.
 pub(crate) fn lend_any<'a>(header: &Header, bytes: &'a [u8], place: &mut RecordView<'a>)
     requires range { IsInRange header.now }
     requires begins { (item : Record) × BeginWith header.now bytes.now item }

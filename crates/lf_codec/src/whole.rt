@@ -88,8 +88,8 @@ impl Progress {
         })
     }
 
-    /// Lends the next record, which is of this kind, where the bytes have it whole and its checks pass, and says how many
-    /// bytes it has. It is not counted.
+    /// Lends the next record, which is of this kind, where the bytes have it whole and its checks pass, and says how
+    /// many bytes it has. It is not counted.
     #[inline(always)]
     fn see_event<'a>(
         &self,

@@ -138,8 +138,8 @@ impl Early {
         Ok(())
     }
 
-    /// Keeps a copy of a record that is lent. It is apart, since it has a place for a record, which costs time where the
-    /// bytes are kept.
+    /// Keeps a copy of a record that is lent. It is apart, since it has a place for a record, which costs time where
+    /// the bytes are kept.
     #[cold]
     #[inline(never)]
     fn put_copy(&mut self, item: &RecordView<'_>) -> Result<(), NoMemory>

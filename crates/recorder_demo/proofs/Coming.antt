@@ -11,7 +11,8 @@ use Rattle.lf_rules.specs.declared.event.Event.TheVariants.{Fence}
 use Rattle.lf_rules.specs.declared.event.Op.{Op}
 use Rattle.lf_recorder.specs.Desk.{SeatView, after_record}
 use Rattle.recorder_demo.specs.declared.port.Port.{Port}
-use Rattle.recorder_demo.specs.Demo.{op_of, block_of, issue_of, request_of, is_issue, is_reply, events_of, HasCome, IsPortLog}
+use Rattle.recorder_demo.specs.Demo.{op_of, block_of, issue_of, request_of, is_issue, is_reply, events_of, HasCome}
+use Rattle.recorder_demo.specs.Demo.{IsPortLog}
 use Rattle.recorder_demo.specs.Threads.{Counts}
 
 come_issue : (shape : Shape) (port issued replied : ℕ) (events : List Event) → HasCome shape port issued replied events

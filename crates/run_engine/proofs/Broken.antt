@@ -53,7 +53,8 @@ first_step : (b : Bool) (x : Record) (one two : Option Record) (r : Record) → 
 first_step true x one two r more is = is
 first_step false x one two r more is = more is
 
-first_more : (k : ℕ) (rs more : List Record) (r : Record) → first_with k rs ≡ Some r → first_with k (rs ++ more) ≡ Some r
+first_more : (k : ℕ) (rs more : List Record) (r : Record) → first_with k rs ≡ Some r
+    → first_with k (rs ++ more) ≡ Some r
 first_more k [] more r is = absurd (cc)
 first_more k (x ∷ rs) more r is =
     first_step (x.number == k) x (first_with k rs) (first_with k (rs ++ more)) r (first_more k rs more r) is

@@ -41,8 +41,8 @@ module _ (old new : Account) (needs : Needs) (shape : Shape) where
 
   module _ (turns : ℕ) (few : new.calls ≤ turns) where
     -- All was read.
-    pub concluded : ReadingIsExact → FaultsSoFarAreNotTruncated → FaultsStand → (j : Judged) (most : ℕ) → most ≡ piece_len
-        → GoesOnToLast old.pieces new.pieces → ¬ (0 < new.failures)
+    pub concluded : ReadingIsExact → FaultsSoFarAreNotTruncated → FaultsStand → (j : Judged) (most : ℕ)
+        → most ≡ piece_len → GoesOnToLast old.pieces new.pieces → ¬ (0 < new.failures)
         → AreBytes j.conclusion.fed.bytes → IsAllRead (HasEnough needs shape) most old new j.conclusion.fed.bytes
         → IsConclusion needs.asked shape j.conclusion
         → (needs.bytes ≡ true → j.bytes.items ≡ j.conclusion.fed.bytes) → IsJudged old new needs shape turns (Ok j)

@@ -195,8 +195,8 @@ module _ (old new : Account) (asked : Type 0) (L : List ℕ → List ℕ → Typ
           unread = is.outcome.unread;
           once = is.outcome.once;
           legal = is.outcome.legal;
-          legal_whole = known (IsOfAll (verdict_of c)) (λ all. IfYes (verdict_of c) (L all)) old.known (λ all w. w.legal)
-              is.whole;
+          legal_whole = known (IsOfAll (verdict_of c)) (λ all. IfYes (verdict_of c) (L all)) old.known
+              (λ all w. w.legal) is.whole;
           runless = is.runless;
           runless_whole = known (IsOfAll (verdict_of c)) (λ all. N all (verdict_of c)) old.known (λ all w. w.runless)
               is.whole;
@@ -480,9 +480,9 @@ module _ (old new writer writer' : Account) (turns : ℕ) (calls : old.calls ≡
       → IsRunOfProgram old new writer writer' (IsWorkerCount workers) (IsLegal shape) (IsRunlessNo shape)
       (IsVerdictOf shape workers) turns (verdict_in answer)
   program_on shape workers (Ok s) is run =
-      let on : IsRun old new writer writer' (verdict_needs true) shape (IsLine (Some shape)) not_read_line turns answer =
-      subst (λ (s : Shape). IsRun old new writer writer' (verdict_needs true) s (IsLine (Some s)) not_read_line turns
-      answer) is.same run in
+      let on : IsRun old new writer writer' (verdict_needs true) shape (IsLine (Some shape)) not_read_line turns
+      answer = subst (λ (s : Shape). IsRun old new writer writer' (verdict_needs true) s (IsLine (Some s)) not_read_line
+      turns answer) is.same run in
       program old new (IsWorkerCount workers) (IsLegal shape) (IsRunlessNo shape) (IsVerdictOf shape workers) turns
       writer writer' (conclusion_in on.came_to)
       (judged_said old new (IsWorkerCount workers) (IsLegal shape) (IsRunlessNo shape) (IsVerdictOf shape workers) turns
@@ -491,8 +491,8 @@ module _ (old new writer writer' : Account) (turns : ℕ) (calls : old.calls ≡
   program_on shape workers (Err r) is run =
       program old new (IsWorkerCount workers) (IsLegal shape) (IsRunlessNo shape) (IsVerdictOf shape workers) turns
       writer writer' (Ok (refused run.fed r))
-      (refused_said old new (IsWorkerCount workers) (IsLegal shape) (IsRunlessNo shape) (IsVerdictOf shape workers) turns
-      run.unread calls failures (λ bytes refusal. tt) r (λ e. let bad : Thread ≡ Workers workers =
+      (refused_said old new (IsWorkerCount workers) (IsLegal shape) (IsRunlessNo shape) (IsVerdictOf shape workers)
+      turns run.unread calls failures (λ bytes refusal. tt) r (λ e. let bad : Thread ≡ Workers workers =
       sym e ∙ is.refusal.0 in absurd (cc)) (λ on count. is.refusal.1 count)
       (λ bytes on. subst (λ (x : Refusal). IsVerdictOf shape workers bytes (Refused x)) (sym is.refusal.0)
       (refl, is.refusal.1)) run.fed) answer run.told
@@ -515,12 +515,13 @@ module _ (old new writer writer' : Account) (turns : ℕ) (calls : old.calls ≡
           (judged_said old new (IsAsked text workers) (IsLegalFor text) (IsRunlessNoFor text)
           (IsVerdictFor text workers) turns shape workers (is.0, (shape, is.1)) is.0
           (λ bytes order h. record { shape = shape; configured = is.1; legal = h })
-          (λ bytes v h. runless_for text shape is.1 bytes v h) (λ bytes v h. verdict_for text shape workers bytes v is.1 h)
-          (verdict_needs true) refl refl run.came_to run.judged) answer run.told
+          (λ bytes v h. runless_for text shape is.1 bytes v h)
+          (λ bytes v h. verdict_for text shape workers bytes v is.1 h) (verdict_needs true) refl refl run.came_to
+          run.judged) answer run.told
       go (Err r) is run =
           program old new (IsAsked text workers) (IsLegalFor text) (IsRunlessNoFor text) (IsVerdictFor text workers)
           turns writer writer' (Ok (refused run.fed r))
           (refused_said old new (IsAsked text workers) (IsLegalFor text) (IsRunlessNoFor text)
           (IsVerdictFor text workers) turns run.unread calls failures (λ bytes refusal shape e. tt) r
-          (not_thread text workers r is) (refused_unasked text workers r is) (refused_verdict text workers r is) run.fed)
-          answer run.told
+          (not_thread text workers r is) (refused_unasked text workers r is) (refused_verdict text workers r is)
+          run.fed) answer run.told

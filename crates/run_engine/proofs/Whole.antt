@@ -73,8 +73,8 @@ nothing_whole shape bytes (Some all) = λ decided. absurd decided
 
 pub whole : ReadingIsExact → FaultsSoFarAreNotTruncated → FaultsStand → (shape : Shape) (a b : Option (List ℕ))
     (bytes : List ℕ) (o : Outcome)
-    → AreBytes bytes → Consumes a b bytes → (¬ HasFault bytes → IsAtEnd b) → (IsDecidedOutcome o → IsOutcomeOf shape bytes o)
-    → IfSome a (λ all. IsWhole shape bytes all o)
+    → AreBytes bytes → Consumes a b bytes → (¬ HasFault bytes → IsAtEnd b)
+    → (IsDecidedOutcome o → IsOutcomeOf shape bytes o) → IfSome a (λ all. IsWhole shape bytes all o)
 whole exact so_far stand shape None b bytes o are given ended h = tt
 whole exact so_far stand shape (Some all) None bytes o are given ended h = absurd given
 whole exact so_far stand shape (Some all) (Some left) bytes o are given ended h =

@@ -61,8 +61,8 @@ impl Needs {
 pub trait Ask {
     ghost needs_of: { Self → Needs };
 
-    // The text is due for what was concluded of a trace for this shape. Where there is no shape, the trace was not asked
-    // for.
+    // The text is due for what was concluded of a trace for this shape. Where there is no shape, the trace was not
+    // asked for.
     ghost is_due: { Self → Option Shape → Conclusion → List ℕ → Type 0 };
 
     // what is written where the trace was not read

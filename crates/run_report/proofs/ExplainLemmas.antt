@@ -86,7 +86,8 @@ module _ {E : Type 0} (shape : Shape) (time : Times) (most : ℕ) (complete : Bo
   told_behind line (Ok text) same told is own line_is text_is =
       subst (λ (t : Bool). IsToldOf shape c.fed.bytes time most c.outcome (told_if complete c.incomplete) t
       (string_bytes text)) (sym told)
-      (subst (λ (f : Option Incomplete). TellsBehindLine shape c.fed.bytes time most c.outcome f (string_bytes text)) same
+      (subst (λ (f : Option Incomplete). TellsBehindLine shape c.fed.bytes time most c.outcome f (string_bytes text))
+      same
       (subst (λ (b : List ℕ). TellsBehindLine shape b time most c.outcome found (string_bytes text))
       (own (decided c.outcome told)) (record {
         why = why;

@@ -64,8 +64,8 @@ impl Ask for Explain<'_> {
 
     ghost needs_of = { λ _. bytes_needs true };
 
-    ghost is_due = { λ ask shape conclusion text. IsExplained (told_by ask.asked.times) ask.asked.most ask.asked.complete
-        shape conclusion text };
+    ghost is_due = { λ ask shape conclusion text. IsExplained (told_by ask.asked.times) ask.asked.most
+        ask.asked.complete shape conclusion text };
 
     ghost lost = { not_read_line };
 

@@ -12,7 +12,8 @@ use Rattle.text_dump.specs.declared.fault.DumpFault.TheVariants.{Read, Turns, Me
 use Rattle.text_dump.specs.Lines.{closing_of}
 use Rattle.text_dump.specs.Dump.{HasFault, IsStopped, IsDumpedBy, piece_len, stop_line, not_read_line, no_memory_line}
 use Rattle.text_dump.specs.Dump.{IsCutOff, Closes}
-use Rattle.text_dump.proofs.Telling.{out_on, stops_at_end, cut_at_end, line_so_far, line_in_part, cut_so_far, cut_in_part}
+use Rattle.text_dump.proofs.Telling.{out_on, stops_at_end, cut_at_end, line_so_far, line_in_part, cut_so_far}
+use Rattle.text_dump.proofs.Telling.{cut_in_part}
 
 none_failed : (n : ℕ) → ¬ (0 < n) → n ≡ 0
 none_failed zero not = refl

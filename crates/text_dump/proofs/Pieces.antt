@@ -15,7 +15,8 @@ use Rattle.text_dump.specs.declared.printer.Printer.{Printer}
 use Rattle.text_dump.specs.Printing.{header_due, parts_due, PrintsAll}
 use Rattle.text_dump.specs.Dump.{IsShown}
 use Rattle.text_dump.proofs.Order.{Follows, follows, orderly, no_more_memory}
-use Rattle.text_dump.proofs.Lengths.{header_cases, no_parts, lines_from-append, len_of-append, parts_within, count_within}
+use Rattle.text_dump.proofs.Lengths.{header_cases, no_parts, lines_from-append, len_of-append, parts_within}
+use Rattle.text_dump.proofs.Lengths.{count_within}
 
 joined : (a a' b b' : List Part) → (b ≡ []) ⊎ (a' ≡ []) → (a ++ a') ++ (b ++ b') ≡ (a ++ b) ++ (a' ++ b')
 joined a a' b b' (inl none) = rw (none, append-nil a) (append_assoc a a' b')

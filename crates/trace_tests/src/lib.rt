@@ -1,4 +1,5 @@
-//! Tests of `lf_codec`, `trace_views`, `trace_early` and `recorder_demo`, in a crate of their own so that each is proved once.
+//! Tests of `lf_codec`, `trace_views`, `trace_early` and `recorder_demo`, in a crate of their own so that each is
+//! proved once.
 #![tactic(auto)]
 
 #[cfg(test)]

@@ -92,8 +92,8 @@ fn view_pieces<S: Source, W: Write>(
 ///
 /// `ViewFault::Read` says that a read failed, `ViewFault::Turns` that the turns were used up before the
 /// trace was read, `ViewFault::Memory` that a growth was refused: then the wave is that of the bytes that were read but
-/// for those of at most one read. `ViewFault::Write` says that a write failed, and `ViewFault::Order` that the bytes are
-/// a trace and the order does not name its records.
+/// for those of at most one read. `ViewFault::Write` says that a write failed, and `ViewFault::Order` that the bytes
+/// are a trace and the order does not name its records.
 pub fn view<T: AllocGlobal, R: Read, W: Write>(
     rt: &T,
     reader: &mut Counted<R>,

@@ -7,7 +7,8 @@ use Rattle.wave_signals.specs.declared.registers.Level.TheVariants as levels
 use Rattle.wave_signals.specs.declared.signal.Signal.{Signal}
 use Rattle.wave_signals.specs.declared.signal.Signal.TheVariants as signals
 use Rattle.wave_signals.specs.declared.view.View.{View}
-use Rattle.wave_signals.specs.Signals.{line, identifier, bit_change, number_change, text_change, level_text, free_change}
+use Rattle.wave_signals.specs.Signals.{line, identifier, bit_change, number_change, text_change, level_text}
+use Rattle.wave_signals.specs.Signals.{free_change}
 use Rattle.wave_signals.specs.Wave.{time, all_counts}
 use Rattle.wave_traffic.specs.declared.counts.Counts.{Counts}
 

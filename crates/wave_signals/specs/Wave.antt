@@ -21,7 +21,8 @@ use Rattle.wave_signals.specs.declared.signal.Signal.TheVariants as signals
 use Rattle.wave_signals.specs.declared.view.Marker.{Marker}
 use Rattle.wave_signals.specs.declared.view.View.{View}
 use Rattle.wave_signals.specs.Registers.{is_of_block, register_of, in_use, level1_after, level2_after}
-use Rattle.wave_signals.specs.Signals.{line, bit_change, number_change, text_change, busy_change, held_change, freed_change}
+use Rattle.wave_signals.specs.Signals.{line, bit_change, number_change, text_change, busy_change, held_change}
+use Rattle.wave_signals.specs.Signals.{freed_change}
 use Rattle.wave_signals.specs.Times.{none_came, came_of, one_more_of, told_time}
 
 -- ---- busy tags: an issue makes its tag busy, and a reply frees it

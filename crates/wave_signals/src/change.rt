@@ -1,7 +1,8 @@
 //! The lines that give a signal a value.
 
 ghost use Rattle.std.specs.Prelude.{◌≡◌, Some};
-ghost use Rattle.wave_signals.specs.Signals.{bit_text, bit_change, number_change, absence_change, text_change, busy_change};
+ghost use Rattle.wave_signals.specs.Signals.{bit_text, bit_change, number_change, absence_change, text_change};
+ghost use Rattle.wave_signals.specs.Signals.{busy_change};
 ghost use Rattle.wave_signals.specs.Signals.{held_change, free_change, freed_change};
 
 use crate::registers::{HeldRegister, Level};

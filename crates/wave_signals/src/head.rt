@@ -1,7 +1,8 @@
 //! The head of a wave: its scopes, its signals, and their first values.
 
 ghost use Rattle.std.specs.Prelude.{◌≡◌, Some};
-ghost use Rattle.wave_signals.specs.Head.{scope_begin, scope_end, port_scope, port_scopes, bank_scope, bank_scopes, scopes};
+ghost use Rattle.wave_signals.specs.Head.{scope_begin, scope_end, port_scope, port_scopes, bank_scope, bank_scopes};
+ghost use Rattle.wave_signals.specs.Head.{scopes};
 ghost use Rattle.wave_signals.specs.Head.{tag_starts, port_start, port_starts, bank_starts, start, head_text};
 ghost use Rattle.wave_signals.specs.Head.{port_values, bank_values, register_values, traffic_values};
 ghost use Rattle.wave_signals.specs.Head.{held_variable, targets_variable, register_variable, register_variables};

@@ -2,7 +2,8 @@
 
 ghost use Rattle.std.specs.Prelude.{Some};
 ghost use Rattle.wave_signals.specs.Times.{told_time};
-ghost use Rattle.wave_signals.specs.Wave.{time, standing_tag, standing_tags, standing, rule_named, mark, beginning, moment};
+ghost use Rattle.wave_signals.specs.Wave.{time, standing_tag, standing_tags, standing, rule_named, mark, beginning};
+ghost use Rattle.wave_signals.specs.Wave.{moment};
 
 use crate::busy::{BusyTag, outstanding};
 use crate::change::{BitChange, BusyChange, NumberChange, TextChange};

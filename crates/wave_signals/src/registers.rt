@@ -4,7 +4,8 @@ ghost use Rattle.std.specs.Prelude.{◌≡◌, ◌==◌, ◌++◌, ◌∷◌, []
 ghost use Rattle.std.specs.List.{find};
 ghost use Rattle.wave_signals.specs.Registers.{block_within, is_tag, block_missed, is_register, is_other_register};
 ghost use Rattle.wave_signals.specs.Registers.{register_of, one_more, held_for, taken_for, joined_for};
-ghost use Rattle.wave_signals.specs.Registers.{is_of_block, is_of_other_block, filled, in_use, level1_after, level2_after};
+ghost use Rattle.wave_signals.specs.Registers.{is_of_block, is_of_other_block, filled, in_use, level1_after};
+ghost use Rattle.wave_signals.specs.Registers.{level2_after};
 
 use crate::busy::BusyTag;
 use lf_rules::{Event, Record};

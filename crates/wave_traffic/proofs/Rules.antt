@@ -29,7 +29,8 @@ use Rattle.wave_traffic.specs.declared.bank.Fetched.{Fetched}
 use Rattle.wave_traffic.specs.declared.queue.Queued.{Queued}
 use Rattle.wave_traffic.specs.Flow.{quotient, is_store, request_of, nobody, oldest, without_oldest}
 use Rattle.wave_traffic.specs.Flow.{is_second, Flow, empty_flow, flow_after, Flows, flows_after, flows_after_all}
-use Rattle.wave_traffic.specs.Flow.{with_if, make_dirty, make_clean, make_dirty_if, after_fill, flow_at, grown, with_flow}
+use Rattle.wave_traffic.specs.Flow.{with_if, make_dirty, make_clean, make_dirty_if, after_fill, flow_at, grown}
+use Rattle.wave_traffic.specs.Flow.{with_flow}
 use Rattle.wave_traffic.specs.Laws.{states_after, dirty_blocks, FlowsAreOfTheRules}
 use Rattle.wave_traffic.proofs.Dirty.{Rising, put_rising, drop_rising, put_dirty, drop_dirty, kept_dirty}
 use Rattle.wave_traffic.proofs.Queues.{of_port, first_or, pushed, oldest_is_first, dropped}

@@ -117,10 +117,10 @@ impl<G: Gate + Sync + Send + Copy + 'static> ParallelSession<G> {
 
     /// What broke, where something did for which no bytes that follow lead to a yes, as `Session::broken` tells it. It
     /// waits for the threads at work, and judges what waits. Where it was not asked what broke first, a part is told
-    /// without a record, and of several that are at fault the lowest port, or otherwise the lowest bank: so what is told
-    /// depends on the bytes that were fed alone (`one_is_named`), and not on the pieces in which they came or on the
-    /// records that were judged together. Where memory runs out, the session stops as after a refused `feed`. Once it
-    /// is stopped nothing is told.
+    /// without a record, and of several that are at fault the lowest port, or otherwise the lowest bank: so what is
+    /// told depends on the bytes that were fed alone (`one_is_named`), and not on the pieces in which they came or on
+    /// the records that were judged together. Where memory runs out, the session stops as after a refused `feed`. Once
+    /// it is stopped nothing is told.
     pub fn broken<R: Threads + Sync>(&mut self, rt: &R) -> Option<Broken>
         ensures shape { self.new.shape ≡ self.old.shape }
         ensures asked { self.new.asked ≡ self.old.asked }

@@ -6,6 +6,6 @@ use Rattle.explain_lines.proofs.times.lines_of.Goals as goal
 
 pub returns : goal.returns
 returns c =
-    let seen = YieldsList-end (YieldsList-from_lines c.args.text.now cc) c.loop-line.yielded _ c.loop-line.yielded_by _ _
-    c.in-None.is c.next.ensures.steps in
+    let seen = YieldsList-end (YieldsList-from_lines c.args.text.now cc) c.loop-line.yielded _ c.loop-line.yielded_by _
+    _ c.in-None.is c.next.ensures.steps in
     ap texts c.loop-line.invariant ∙ seen.0

@@ -17,7 +17,8 @@ returns-in-Some-clause-outcome c memory =
     let now = with_tags (first_local memory) c.loop-at.tags.owed_by in
     GoesOn-broken c.args.shape.now (first_local memory) now c.args.records.now c.loop-at.at c.index-records-at.result
     c.in-Some.rule
-    (c.loop-at.invariant memory) (omega arith) c.index-records-at.is (subst (λ (r : Record). Some c.in-Some.rule ≡ first_failing OfPort (clauses c.args.shape.now now r))
+    (c.loop-at.invariant memory) (omega arith) c.index-records-at.is
+    (subst (λ (r : Record). Some c.in-Some.rule ≡ first_failing OfPort (clauses c.args.shape.now now r))
     c.of-item.ensures (c.in-Some.ensures (first_local memory)))
 
 pub loop-at-preserved : goal.loop-at-preserved
@@ -25,7 +26,8 @@ loop-at-preserved c memory =
     let now = with_tags (first_local memory) c.loop-at.tags.owed_by in
     let next = with_tags (first_local memory) c.update.new.self.owed_by in
     GoesOn-more c.args.shape.now (first_local memory) now next c.args.records.now c.loop-at.at c.index-records-at.result
-    (c.loop-at.invariant memory) (omega arith) c.index-records-at.is (subst (λ (r : Record). None ≡ first_failing OfPort (clauses c.args.shape.now now r)) c.of-item.ensures
+    (c.loop-at.invariant memory) (omega arith) c.index-records-at.is
+    (subst (λ (r : Record). None ≡ first_failing OfPort (clauses c.args.shape.now now r)) c.of-item.ensures
     (c.in_default.ensures (first_local memory)))
     (subst (λ (r : Record). port_effect now r ≡ next) c.of-item.ensures (c.update.ensures (first_local memory)))
 

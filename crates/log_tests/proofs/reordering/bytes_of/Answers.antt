@@ -30,4 +30,5 @@ returns-clause-spelled c =
     ∙ ap (λ (x : Record). record_bytes x) c.to_record.ensures
 
 pub returns-clause-fits : goal.returns-clause-fits
-returns-clause-fits c = subst (λ (x : Record). FitsRecord 1 1 8 1 x) c.to_record.ensures c.in_ok-trace.ensures.fits.each.0.fits
+returns-clause-fits c =
+    subst (λ (x : Record). FitsRecord 1 1 8 1 x) c.to_record.ensures c.in_ok-trace.ensures.fits.each.0.fits

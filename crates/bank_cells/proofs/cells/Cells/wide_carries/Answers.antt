@@ -45,7 +45,8 @@ loop-part-preserved c = record {
 
 pub returns : goal.returns
 returns c = λ second is.
-    let part : ℕ → List ℕ = part_masked c.args.shape.now (memory_at c.args.self.now) second (masks_of c.args.masks.now) in
+    let part : ℕ → List ℕ =
+    part_masked c.args.shape.now (memory_at c.args.self.now) second (masks_of c.args.masks.now) in
     let none : c.args.shape.now.factor - c.loop-part.part ≡ 0 = omega (arith, c.loop-part-test.false) in
     at_end c.args.bytes.now c.loop-part.end c.loop-part.invariant.within
     ∙ sym (c.loop-part.invariant.left second is

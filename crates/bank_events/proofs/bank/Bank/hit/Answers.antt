@@ -29,7 +29,8 @@ returns g c = rw (← c.self.view_is) (λ log waiting regs2 alike held.
     let pushed = if_ok c.push.result c.if-is_err.ensures.value c.push.ensures.ok
     ∙ ap (λ (r : Ready). c.self.inside.ready.items ++ r ∷ []) reply in record {
       kept = hit_judged c.self.inside.shape c.self.inside.queues.items c.args.port c.args.tag c.in-Some.request.now
-          c.self.invariant.framed.ports head.0 head.1 (first_at c.self.inside.cells) c.block.result c.block.ensures present;
+          c.self.invariant.framed.ports head.0 head.1 (first_at c.self.inside.cells) c.block.result c.block.ensures
+          present;
       shape = refl;
       waiting = record { level1 = alike.level1; level2 = alike.level2 };
       known = λ i. record {

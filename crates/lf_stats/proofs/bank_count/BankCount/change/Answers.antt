@@ -9,4 +9,5 @@ pub returns-in-Fill1-clause-held : goal.returns-in-Fill1-clause-held
 returns-in-Fill1-clause-held c next holds alike told =
     let ended = subst (λ block. IsHeld c.release.new.self (filter (λ h. not (h.0 == block)) holds))
     c.from-in-Fill1.ensures (c.release.ensures holds told) in
-    subst (λ event. IsHeld c.release.new.self (held_by next event holds)) (ap event_of (sym c.in-Fill1.is) ∙ c.event.ensures.shown) ended
+    subst (λ event. IsHeld c.release.new.self (held_by next event holds))
+    (ap event_of (sym c.in-Fill1.is) ∙ c.event.ensures.shown) ended

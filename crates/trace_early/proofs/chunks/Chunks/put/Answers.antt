@@ -12,8 +12,8 @@ returns-in_err-number-clause-refused c =
 
 pub returns-clause-one_more : goal.returns-clause-one_more
 returns-clause-one_more c kept keeps =
-    keeps_what_is_put c.with_room.new.chunks.items c.in_ok-number.number c.index_mut-chunk.result.now c.put-step.new.self
-    c.in_ok-number.ensures.number.0 c.index_mut-chunk.ensures.value c.put-step.ensures.old
+    keeps_what_is_put c.with_room.new.chunks.items c.in_ok-number.number c.index_mut-chunk.result.now
+    c.put-step.new.self c.in_ok-number.ensures.number.0 c.index_mut-chunk.ensures.value c.put-step.ensures.old
     c.put-step.ensures.one_more c.new.result c.put-step.result c.args.item.now c.new.ensures
     c.put-step.ensures.step_in c.put-step.ensures.own kept
     (c.in_ok-number.ensures.kept kept

@@ -46,6 +46,7 @@ returns-clause-concluded c =
     subst (λ (asked : Asked). IsConclusion asked s.shape end) taken.asked
     (subst (λ (shape : Shape). IsConclusion t.asked shape end) taken.shape
     (concluded c.yes_is_legal.ensures c.no_has_no_run.ensures c.exact_reading.ensures t.shape t.asked fed
-    c.first_broken-broken.result c.judged-outcome.result m.1.read.are_bytes (c.judged-outcome.ensures.judged fed.bytes m)
-    (c.first_broken-broken.ensures fed.bytes m) c.judged-outcome.ensures.ordered
+    c.first_broken-broken.result c.judged-outcome.result m.1.read.are_bytes
+    (c.judged-outcome.ensures.judged fed.bytes m) (c.first_broken-broken.ensures fed.bytes m)
+    c.judged-outcome.ensures.ordered
     (λ counted. c.judged-outcome.ensures.counted (does.counting counted))))

@@ -13,7 +13,8 @@ use Rattle.run_engine.specs.Line.{line_of}
 use Rattle.run_engine.proofs.asks.statistics.StatisticsAsk.text.Goals as goal
 
 some_lines : (shape : Shape) (bytes : List ℕ) (outcome : Outcome) (stats : Stats) (text : List ℕ) → IsYesOutcome outcome
-    → AreStatisticsOf shape bytes stats → text ≡ stats_text stats → IfLegal (AreStatisticsLines shape bytes) outcome text
+    → AreStatisticsOf shape bytes stats → text ≡ stats_text stats
+    → IfLegal (AreStatisticsLines shape bytes) outcome text
 some_lines shape bytes (Yes events) stats text legal is lines = record { stats = stats; statistics = is; lines = lines }
 some_lines shape bytes (No fault) stats text legal is lines = absurd legal
 some_lines shape bytes (Refused refusal) stats text legal is lines = absurd legal
