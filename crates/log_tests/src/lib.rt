@@ -1,7 +1,17 @@
-//! Tests of the logs of a trace, their orders, and the rules of a port, in a crate of their own so that each
-//! part is proved once.
+//! Tests of the logs of a trace and of what is configured, counted and recorded beside them, in a crate of their own so
+//! that each part is proved once.
 #![tactic(auto)]
 
+#[cfg(test)]
+mod bank_counts;
+#[cfg(test)]
+mod configuration;
+#[cfg(test)]
+mod coverage;
+#[cfg(test)]
+mod fitting;
+#[cfg(test)]
+mod growth;
 #[cfg(test)]
 mod logs_of_traces;
 #[cfg(test)]
@@ -11,4 +21,12 @@ mod packed_logs;
 #[cfg(test)]
 mod ports;
 #[cfg(test)]
+mod rechecks;
+#[cfg(test)]
+mod recording;
+#[cfg(test)]
 mod reordering;
+#[cfg(test)]
+mod statistics;
+#[cfg(test)]
+mod usage;

@@ -8,7 +8,7 @@ use Rattle.lf_rules.specs.declared.event.Record.{Record}
 use Rattle.lf_rules.specs.Fits.{Fits}
 use Rattle.lf_rules.specs.Order.{log_at}
 use Rattle.lf_model.proofs.Walks.{items_of}
-use Rattle.part_tests.proofs.rechecks.are_sound.Goals as goal
+use Rattle.log_tests.proofs.rechecks.are_sound.Goals as goal
 
 named_all : (P : ℕ → Record → Type 0) (vs : List (Vec Record)) →
     ((k : ℕ) (d : Vec Record) → k < length vs → All (P k) (get_or vs k d).items) → (log : ℕ)

@@ -1,5 +1,5 @@
 use Rattle.std.proofs.Common.{◌≡◌}
-use Rattle.part_tests.proofs.recording.record_all.Given as goal
+use Rattle.log_tests.proofs.recording.record_all.Given as goal
 
 abbrev pub invariant-loop-i : goal.invariant-loop-i
 invariant-loop-i l = l.seat.desk ≡ l.desk.desk

@@ -1,7 +1,7 @@
 use Rattle.std.proofs.Common.{◌≡◌, sym, subst, arith}
 use Rattle.lf_rules.specs.Numbers.{bank_numbers, IsWhole}
 use Rattle.lf_logs.specs.Lists.{lists_of}
-use Rattle.part_tests.proofs.statistics.counted.Goals as goal
+use Rattle.log_tests.proofs.statistics.counted.Goals as goal
 
 pub stats-requires-clause-whole : goal.stats-requires-clause-whole
 stats-requires-clause-whole c bank h =

@@ -1,7 +1,7 @@
 use Rattle.std.proofs.Common.{◌≡◌, take}
 use Rattle.std.specs.List.{All}
 use Rattle.lf_rules.specs.Fits.{Fits}
-use Rattle.part_tests.proofs.rechecks.log_is_sound.Given as goal
+use Rattle.log_tests.proofs.rechecks.log_is_sound.Given as goal
 
 abbrev pub invariant-loop-item : goal.invariant-loop-item
 invariant-loop-item l = record {
