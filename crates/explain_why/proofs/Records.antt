@@ -56,7 +56,7 @@ first_bank shape bytes None is = tt
 first_bank shape bytes (Some (broken.Header field)) is = tt
 first_bank shape bytes (Some (broken.Part part None)) is = absurd is
 first_bank shape bytes (Some (broken.Part part (Some upon))) is =
-    part_bank shape (flat_memory is.memory) _ part is.first.broke
+    part_bank shape (flat_memory is.memory) _ part is.first.broke.is
 
 -- ---- a yes
 

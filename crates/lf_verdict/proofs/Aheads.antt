@@ -19,7 +19,9 @@ use Rattle.lf_verdict.specs.inner.Ahead.{CanRead, ReadsOn, IsAhead, IsIdle, sess
 use Rattle.lf_verdict.specs.inner.Shares.{MayFollow, StandsAfterNext}
 use Rattle.lf_verdict.specs.declared.stop.Stop.{Stop}
 use Rattle.lf_verdict.specs.declared.stop.Stop.TheVariants as stops
-use Rattle.lf_verdict.specs.inner.Fed.{HasTaken, HasFed, HasFedUntil, IsRunningNow, IsAsAsked, IsPlain}
+use Rattle.lf_verdict.specs.Session.{CanTell}
+use Rattle.lf_verdict.specs.declared.session.asked.Asked.{Asked}
+use Rattle.lf_verdict.specs.inner.Fed.{HasTaken, HasFed, HasFedUntil, IsStopIn, IsRunningNow, IsAsAsked, IsPlain}
 use Rattle.lf_verdict.specs.declared.session.workers.Workers.{Workers}
 use Rattle.lf_verdict.specs.declared.session.standing.Standing.{Standing}
 use Rattle.lf_verdict.specs.declared.session.ahead.Ahead.{Ahead}
@@ -30,7 +32,7 @@ use Rattle.lf_verdict.specs.inner.Taking.{running_before, IsSettled}
 use Rattle.lf_verdict.specs.inner.Workers.{AreWorkers}
 use Rattle.lf_verdict.proofs.Batches.{first_come}
 use Rattle.lf_verdict.proofs.Pieces.{told_fine}
-use Rattle.lf_verdict.proofs.Sessions.{may_all_come, running_more, judged_feed, stop_stays}
+use Rattle.lf_verdict.proofs.Sessions.{may_all_come, running_more, judged_feed, stop_in_stays, can_going}
 
 -- what was lent stands in front
 pub lent_before : {G : Type 0} (a : Ahead G) (workers : Workers) (bytes : List ℕ) → a.at_work ≡ Some workers →
@@ -146,15 +148,26 @@ read_ahead law a bytes piece r rs taken ok fine =
           (still_to_take r (bytes ++ piece) memory taken.0 lent rs.records has) fine,
     )
 
--- a stop says nothing of the session
-pub any_stop : (s t : Intake) (bytes : List ℕ) (stop : Stop) → HasFedUntil s bytes (Some stop) →
-    HasFedUntil t bytes (Some stop)
-any_stop s t bytes (stops.Format fault) at = at
-any_stop s t bytes stops.Memory at = at
+-- where it was not asked what broke first, that is told only while nothing stopped it
+pub unwatched_going : (asked : Asked) (stop : Option Stop) → asked.watched ≡ false → CanTell asked stop → stop ≡ None
+unwatched_going asked None unwatched can = refl
+unwatched_going asked (Some (stops.Format fault)) unwatched can =
+    let e : true ≡ false = sym can ∙ unwatched in absurd (cc)
+unwatched_going asked (Some stops.Memory) unwatched can = absurd can
 
-pub stopped : (s t : Intake) (bytes : List ℕ) (stop : Stop) → t.stop ≡ Some stop → HasFedUntil s bytes (Some stop) →
-    HasFed t bytes
-stopped s t bytes stop is at = subst (λ (o : Option Stop). HasFedUntil t bytes o) (sym is) (any_stop s t bytes stop at)
+-- where neither is asked for, nothing is told once it is stopped
+pub plain_silent : (asked : Asked) (stop : Stop) → IsPlain asked → CanTell asked (Some stop) → ⊥
+plain_silent asked (stops.Format fault) plain can = let e : true ≡ false = sym can ∙ plain.unwatched in absurd (cc)
+plain_silent asked stops.Memory plain can = can
+
+-- ... and nothing need be taken
+pub plain_stopped : (t : Intake) (bytes : List ℕ) (stop : Stop) → t.stop ≡ Some stop → IsPlain t.asked →
+    IsStopIn bytes stop → HasFed t bytes
+plain_stopped t bytes stop is plain at = subst (λ (o : Option Stop). HasFedUntil t bytes o) (sym is) (go stop at)
+  where
+    go : (stop : Stop) → IsStopIn bytes stop → HasFedUntil t bytes (Some stop)
+    go (stops.Format fault) at = (at, λ can. absurd (plain_silent t.asked (stops.Format fault) plain can))
+    go stops.Memory at = tt
 
 -- what nothing stopped has taken is what it was fed
 pub still_going : (s : Intake) (bytes : List ℕ) → s.stop ≡ None → HasTaken s bytes → HasFed s bytes
@@ -168,19 +181,32 @@ none_ahead a bytes alone none fed =
     (subst (λ (xs : List Record). HasFed (record a.intake { reader = with_records xs a.intake.reader }) bytes)
     (sym none) fed)
 
--- what a session was fed that neither reads ahead nor waits for workers
-pub idle_fed : {G : Type 0} (a : Ahead G) (bytes : List ℕ) → IsIdle a → HasFed (session_of a) bytes →
-    HasFed a.intake bytes
-idle_fed a bytes idle fed =
-    subst (λ (xs : List Record). HasFed (record a.intake { reader = with_records xs a.intake.reader }) bytes) idle.none
-    (subst (λ (w : Option Workers). HasFed (session_of (record a { at_work = w })) bytes) idle.alone fed)
+-- what a session has taken that neither reads ahead nor waits for workers
+idle_taken : {G : Type 0} (a : Ahead G) (bytes : List ℕ) → IsIdle a → HasTaken (session_of a) bytes →
+    HasTaken a.intake bytes
+idle_taken a bytes idle taken =
+    subst (λ (xs : List Record). HasTaken (record a.intake { reader = with_records xs a.intake.reader }) bytes)
+    idle.none
+    (subst (λ (w : Option Workers). HasTaken (session_of (record a { at_work = w })) bytes) idle.alone taken)
 
 -- one that is asked what broke first does neither
-pub watched_idle : {G : Type 0} (a : Ahead G) → IsAhead a → a.intake.stop ≡ None → a.intake.asked.watched ≡ true →
-    IsIdle a
-watched_idle a ahead on watched = ⊎_elim
+watched_idle : {G : Type 0} (a : Ahead G) → IsAhead a → CanTell a.intake.asked a.intake.stop →
+    a.intake.asked.watched ≡ true → IsIdle a
+watched_idle a ahead can watched = ⊎_elim
     (λ (plain : IsPlain a.intake.asked). let e : true ≡ false = sym watched ∙ plain.unwatched in absurd (cc))
-    (λ idle. idle) (ahead.in_turn on)
+    (λ idle. idle) (ahead.in_turn can)
+
+-- what it was fed, or what one was fed that was stopped
+pub own_fed : {G : Type 0} (a : Ahead G) (bytes : List ℕ) (stop : Option Stop) → IsAhead a → a.intake.stop ≡ stop →
+    (stop ≡ None → a.intake.asked.watched ≡ true) → HasFedUntil (session_of a) bytes stop
+    → HasFedUntil a.intake bytes stop
+own_fed a bytes None ahead is watched fed =
+    idle_taken a bytes (watched_idle a ahead (subst (CanTell a.intake.asked) (sym is) tt) (watched refl)) fed
+own_fed a bytes (Some (stops.Format fault)) ahead is watched fed = (
+  fed.0,
+  λ can. idle_taken a bytes (watched_idle a ahead (subst (CanTell a.intake.asked) (sym is) can) can) (fed.1 can),
+)
+own_fed a bytes (Some stops.Memory) ahead is watched fed = tt
 
 -- where neither is asked for, what was asked is done
 pub plain_as_asked : (s : Intake) → IsPlain s.asked → IsAsAsked s
@@ -192,7 +218,8 @@ plain_as_asked s plain = record {
 -- what is busy is asked for neither
 pub plain_or_idle : {G : Type 0} (a : Ahead G) → IsAhead a → a.intake.stop ≡ None → (IsIdle a → ⊥) →
     IsPlain a.intake.asked
-plain_or_idle a ahead on busy = ⊎_elim (λ plain. plain) (λ (idle : IsIdle a). absurd (busy idle)) (ahead.in_turn on)
+plain_or_idle a ahead on busy = ⊎_elim (λ plain. plain) (λ (idle : IsIdle a). absurd (busy idle))
+    (ahead.in_turn (can_going a.intake on))
 
 -- ---- how it stands
 
@@ -208,20 +235,20 @@ idle_ahead a alone none does settled = record {
   settled = settled;
 }
 
--- it was stopped
+-- it was stopped, and tells nothing more
 pub stopped_ahead : {G : Type 0} (a : Ahead G) (stop : Stop) → a.intake.stop ≡ Some stop → a.at_work ≡ None →
-    IsAhead a
-stopped_ahead a stop is alone = record {
-  ahead = λ on. absurd (none on);
+    (CanTell a.intake.asked (Some stop) → ⊥) → IsAhead a
+stopped_ahead a stop is alone silent = record {
+  ahead = λ on. let e : Some stop ≡ None = sym is ∙ on in absurd (cc);
   alone = λ some. alone;
   workers = subst (λ (w : Option Workers). IfSome w AreWorkers) (sym alone) tt;
-  in_turn = λ on. absurd (none on);
-  as_asked = λ on. absurd (none on);
-  settled = λ watched on. absurd (none on);
+  in_turn = λ can. absurd (none can);
+  as_asked = λ can. absurd (none can);
+  settled = λ watched can. absurd (none can);
 }
   where
-    none : a.intake.stop ≡ None → ⊥
-    none on = let e : Some stop ≡ None = sym is ∙ on in absurd (cc)
+    none : CanTell a.intake.asked a.intake.stop → ⊥
+    none can = silent (subst (CanTell a.intake.asked) is can)
 
 -- records are judged together
 pub plain_ahead : {G : Type 0} (a : Ahead G) → IsPlain a.intake.asked → a.intake.stop ≡ None →
@@ -268,7 +295,8 @@ reads_more law a piece r rs can ok fine = record {
   running = can.running;
   workers = can.workers;
   taken = λ bytes taken.
-      read_ahead law a bytes piece r rs taken ok (told_fine a.intake.reader.fault r.fault taken.1.fine fine);
+      read_ahead law a bytes piece r rs taken ok
+      (told_fine a.intake.reader.fault r.fault (taken.1.fine can.going) fine);
   stopped = tt;
 }
 
@@ -279,6 +307,7 @@ can_still old new piece can read = record {
   running = read.running;
   workers = read.workers;
   taken = (can.taken.0 ++ piece, read.taken can.taken.0 can.taken.1);
+  going = read.stop ∙ can.going;
 }
 
 -- a part was read behind what was read
@@ -311,7 +340,7 @@ pub none_left : (xs : List ℕ) → true ≡ (length xs == 0) → xs ≡ []
 none_left [] none = refl
 none_left (x ∷ xs) none = absurd (omega (arith, eqb-true (length (x ∷ xs)) 0 (sym none)))
 
-bytes_behind : (xs ys : List ℕ) → AreBytes (xs ++ ys) → AreBytes ys
+pub bytes_behind : (xs ys : List ℕ) → AreBytes (xs ++ ys) → AreBytes ys
 bytes_behind xs ys are i =
     let at = get_or-append_right xs ys (length xs) (length xs + i) 0 refl (omega arith) in
     let same : length xs + i - length xs ≡ i = omega arith in
@@ -329,10 +358,10 @@ part_stopped law old mid new piece front part behind stop cut fit first next = r
   workers = next.workers;
   taken = tt;
   stopped = λ bytes taken.
-      subst (λ (xs : List ℕ). HasFedUntil new.intake xs (Some stop))
+      subst (λ (xs : List ℕ). IsStopIn xs stop)
       (append_assoc (bytes ++ front) part behind ∙ append_assoc bytes front (part ++ behind)
       ∙ ap (λ (xs : List ℕ). bytes ++ xs) (sym cut))
-      (stop_stays law new.intake ((bytes ++ front) ++ part) behind stop
+      (stop_in_stays law ((bytes ++ front) ++ part) behind stop
       (bytes_behind (front ++ part) behind (subst AreBytes (cut ∙ sym (append_assoc front part behind)) fit))
       (next.stopped (bytes ++ front) (first.taken bytes taken)));
 }

@@ -112,40 +112,46 @@ module _ (shape : Shape) (memory : FlatMemory) (records : List Record) (r : Reco
   abbrev after : List Record
   after = records ++ r ∷ []
 
+  pub port_whole_more : NoneBroke shape memory records → (p : ℕ) → (p ≡ r.log → ⊥) → IsPortWhole shape memory after p
+  port_whole_more none p other at rule is = none (parts.Port p at rule) (
+    is.0,
+    subst (λ (rs : List Record). BreaksAt OfPort shape (first_local memory) rs at rule)
+        (of_key-push_other (λ r. r.log) p records r (λ e. other (sym e))) is.1,
+  )
+
+  pub bank_whole_more : NoneBroke shape memory records → (b : ℕ) → (b ≡ r.bank → ⊥) → IsBankWhole shape memory after b
+  bank_whole_more none b other =
+      let same = of_key-push_other (λ r. r.bank) b records r (λ e. other (sym e)) in
+      record {
+        numbers = λ k is. none (parts.Double b k)
+            (is.0, subst (λ (rs : List Record). IsDouble (numbers_of rs) k) same is.1);
+        rules = λ number rule is. none (parts.Bank b number rule) (record {
+          is_bank = is.is_bank;
+          gave = is.gave;
+          first = subst (λ (rs : List Record). AreFirst rs is.gave) same is.first;
+          breaks = is.breaks;
+        });
+      }
+
+  pub ports_whole_more : NoneBroke shape memory records → IsPortWhole shape memory after r.log → (p : ℕ) →
+      IsPortWhole shape memory after p
+  ports_whole_more none port p = ⊎_elim
+      (λ (own : p ≡ r.log). subst (IsPortWhole shape memory after) (sym own) port)
+      (λ (other : p ≡ r.log → ⊥). port_whole_more none p other)
+      (cases_eq p r.log)
+
+  banks_whole_more : NoneBroke shape memory records → IsBankWhole shape memory after r.bank → (b : ℕ) →
+      IsBankWhole shape memory after b
+  banks_whole_more none bank b = ⊎_elim
+      (λ (own : b ≡ r.bank). subst (IsBankWhole shape memory after) (sym own) bank)
+      (λ (other : b ≡ r.bank → ⊥). bank_whole_more none b other)
+      (cases_eq b r.bank)
+
   pub none_broke_more : NoneBroke shape memory records → IsPortWhole shape memory after r.log →
       IsBankWhole shape memory after r.bank → NoneBroke shape memory after
-  none_broke_more none port bank (parts.Port p at rule) is = ⊎_elim
-      (λ (own : p ≡ r.log). port at rule (subst (λ (q : ℕ). IsFaultOfPart shape memory after (parts.Port q at rule))
-      own is))
-      (λ (other : p ≡ r.log → ⊥).
-      none (parts.Port p at rule) (
-        is.0,
-        subst (λ (rs : List Record). BreaksAt OfPort shape (first_local memory) rs at
-            rule) (of_key-push_other (λ r. r.log) p records r (λ e. other (sym e))) is.1,
-      ))
-      (cases_eq p r.log)
-  none_broke_more none port bank (parts.Double b k) is = ⊎_elim
-      (λ (own : b ≡ r.bank). bank.numbers k (subst (λ (q : ℕ). IsFaultOfPart shape memory after (parts.Double q k))
-      own is))
-      (λ (other : b ≡ r.bank → ⊥).
-      none (parts.Double b k) (
-        is.0,
-        subst (λ (rs : List Record). IsDouble (numbers_of rs) k)
-            (of_key-push_other (λ r. r.bank) b records r (λ e. other (sym e))) is.1,
-      ))
-      (cases_eq b r.bank)
-  none_broke_more none port bank (parts.Bank b number rule) is = ⊎_elim
-      (λ (own : b ≡ r.bank). bank.rules number rule (subst (λ (q : ℕ). IsFaultOfPart shape memory after
-      (parts.Bank q number rule)) own is))
-      (λ (other : b ≡ r.bank → ⊥).
-      none (parts.Bank b number rule) (record {
-        is_bank = is.is_bank;
-        gave = is.gave;
-        first = subst (λ (rs : List Record). AreFirst rs is.gave)
-            (of_key-push_other (λ r. r.bank) b records r (λ e. other (sym e))) is.first;
-        breaks = is.breaks;
-      }))
-      (cases_eq b r.bank)
+  none_broke_more none port bank (parts.Port p at rule) is = ports_whole_more none port p at rule is
+  none_broke_more none port bank (parts.Double b k) is = (banks_whole_more none bank b).numbers k is
+  none_broke_more none port bank (parts.Bank b number rule) is = (banks_whole_more none bank b).rules number rule is
 
 -- no record came
 pub none_broke_nothing : (shape : Shape) (memory : FlatMemory) → NoneBroke shape memory []

@@ -21,21 +21,20 @@ use Rattle.lf_verdict.specs.declared.early_end.Ending.TheVariants as endings
 use Rattle.lf_verdict.specs.declared.session.asked.Asked.{Asked}
 use Rattle.lf_verdict.specs.declared.session.breaking.Broken.{Broken}
 use Rattle.lf_verdict.specs.declared.session.conclusion.Conclusion.{Conclusion}
-use Rattle.lf_verdict.specs.declared.session.intake.Intake.{Intake}
 use Rattle.lf_verdict.specs.declared.session.standing.verdict.Judged.{Judged}
 use Rattle.lf_verdict.specs.declared.stop.Stop.{Stop}
 use Rattle.lf_verdict.specs.declared.stop.Stop.TheVariants as stops
 use Rattle.lf_verdict.specs.Breaking.{NoneBroke}
-use Rattle.lf_verdict.specs.Conclusion.{IsConclusion, IsLegalOutcome, IsOrderFor, refused, without_memory}
+use Rattle.lf_verdict.specs.Conclusion.{IsConclusion, IsLegalOutcome, IsOrderFor, refused_after, without_memory}
 use Rattle.lf_verdict.specs.Final.{NoneBrokeInTrace}
 use Rattle.lf_verdict.specs.Incomplete.{IsIncompleteFor}
 use Rattle.lf_verdict.specs.Laws.{YesIsLegal, NoHasNoRun, IsRunlessOutcome}
 use Rattle.lf_verdict.specs.Legal.{IsTraceFor}
 use Rattle.lf_verdict.specs.Named.{HasBegun, NoneBrokeSoFar}
 use Rattle.lf_verdict.specs.Outcome.{IsOutcomeOf, IsDecidedOutcome, IsYesOutcome}
-use Rattle.lf_verdict.specs.Session.{refusal_of}
+use Rattle.lf_verdict.specs.Session.{CanTell, refusal_of}
 use Rattle.lf_verdict.specs.inner.Ending.{IsEnding}
-use Rattle.lf_verdict.specs.inner.Fed.{HasFedUntil}
+use Rattle.lf_verdict.specs.inner.Fed.{IsStopIn}
 use Rattle.lf_verdict.specs.inner.Judged.{ending_outcome, IsLogsOutcome, IsLogsOrder, IsLogsIncomplete, IsLogsJudged}
 use Rattle.lf_verdict.specs.inner.Judged.{IsOutcomeOrWant, IsLeastFor, IsJudged, TellsFirst}
 use Rattle.lf_verdict.proofs.Breaks.{if_none}
@@ -141,13 +140,13 @@ none_in_trace exact shape bytes are_bytes none memory logs t =
     (none.parts begun))
 
 -- Bytes in which a fault of the format stands are no trace.
-none_stopped : ReadingIsExact → (s : Intake) (bytes : List ℕ) (stop : Stop) → HasFedUntil s bytes (Some stop) →
-    IsDecidedOutcome (Refused (refusal_of stop)) → NoneBrokeInTrace s.shape bytes
-none_stopped exact s bytes (stops.Format fault) at decided memory logs t =
+none_stopped : ReadingIsExact → (shape : Shape) (bytes : List ℕ) (stop : Stop) → IsStopIn bytes stop →
+    IsDecidedOutcome (Refused (refusal_of stop)) → NoneBrokeInTrace shape bytes
+none_stopped exact shape bytes (stops.Format fault) at decided memory logs t =
     let fine : trace_fault bytes ≡ None = ((exact bytes t.header memory t.records at.1).1 t.trace).0 in
     let found : trace_fault bytes ≡ Some fault = ap (λ (f : Option CodecFault). fault_of (reading_of bytes) f) at.0 in
     absurd (cc)
-none_stopped exact s bytes stops.Memory at decided memory logs t = absurd decided
+none_stopped exact shape bytes stops.Memory at decided memory logs t = absurd decided
 
 -- ---- a session that ends
 
@@ -201,7 +200,7 @@ module _ (yes_law : YesIsLegal) (no_law : NoHasNoRun) (exact : ReadingIsExact) (
   legal_order bytes (Refused refusal) order is = is
 
   pub concluded : (asked : Asked) (fed : Fed) (broken : Option Broken) (judged : Judged) → AreBytes fed.bytes →
-      IsJudged shape fed.bytes judged → TellsFirst asked shape fed.bytes broken
+      IsJudged shape fed.bytes judged → TellsFirst asked shape fed.bytes None broken
       → (asked.ordered ≡ true → IsYesOutcome judged.outcome → IsSome judged.order)
       → (asked.counted ≡ true → IsYesOutcome judged.outcome → IsSome judged.statistics)
       → IsConclusion asked shape (conclusion_of fed broken judged)
@@ -215,7 +214,8 @@ module _ (yes_law : YesIsLegal) (no_law : NoHasNoRun) (exact : ReadingIsExact) (
     ordered = ordered;
     broken = first.final;
     earliest = first.earliest;
-    none = λ on watched. if_none broken (first.none watched) (none_in_trace exact shape fed.bytes are);
+    none = λ on watched. if_none broken (first.none watched tt) (none_in_trace exact shape fed.bytes are);
+    none_so_far = λ on watched. first.none watched tt;
     incomplete = is.incomplete;
     statistics = is.statistics;
     after_yes = is.after_yes;
@@ -234,36 +234,45 @@ memory_concluded asked shape fed = record {
   broken = tt;
   earliest = tt;
   none = λ on watched. absurd on;
+  none_so_far = λ on watched. absurd on;
   incomplete = refl;
   statistics = tt;
   after_yes = λ some. absurd (cc);
   counted = λ counted told. absurd told;
 }
 
--- where it was stopped
-pub stop_concluded : ReadingIsExact → (s : Intake) (asked : Asked) (fed : Fed) (stop : Stop) →
-    HasFedUntil s fed.bytes (Some stop) → IsConclusion asked s.shape (refused fed (refusal_of stop))
-stop_concluded exact s asked fed stop at = record {
+-- where it was stopped, and this broke before
+pub stop_concluded : ReadingIsExact → (asked : Asked) (shape : Shape) (fed : Fed) (stop : Stop) (broken : Option Broken)
+    → IsStopIn fed.bytes stop → TellsFirst asked shape fed.bytes (Some stop) broken
+    → IsConclusion asked shape (refused_after broken fed (refusal_of stop))
+stop_concluded exact asked shape fed stop broken at first = record {
   outcome = outcome stop at;
   legal = tt;
   runless = tt;
   thread = thread stop;
   order = tt;
   ordered = λ ordered told. absurd told;
-  broken = tt;
-  earliest = tt;
-  none = λ on watched. none_stopped exact s fed.bytes stop at on;
+  broken = first.final;
+  earliest = first.earliest;
+  none = λ on watched. if_none broken (tells stop watched on (first.none watched))
+      (λ _. none_stopped exact shape fed.bytes stop at on);
+  none_so_far = λ on watched. tells stop watched on (first.none watched);
   incomplete = refl;
   statistics = tt;
   after_yes = λ some. absurd (cc);
   counted = λ counted told. absurd told;
 }
   where
-    outcome : (stop : Stop) → HasFedUntil s fed.bytes (Some stop) → IsDecidedOutcome (Refused (refusal_of stop)) →
-        IsOutcomeOf s.shape fed.bytes (Refused (refusal_of stop))
+    outcome : (stop : Stop) → IsStopIn fed.bytes stop → IsDecidedOutcome (Refused (refusal_of stop)) →
+        IsOutcomeOf shape fed.bytes (Refused (refusal_of stop))
     outcome (stops.Format fault) at on = ap (λ (f : Option CodecFault). fault_of (reading_of fed.bytes) f) at.0
     outcome stops.Memory at on = absurd on
 
     thread : (stop : Stop) → ¬ (Refused (refusal_of stop) ≡ Refused refusals.Thread)
     thread (stops.Format fault) e = absurd (cc)
     thread stops.Memory e = absurd (cc)
+
+    tells : {P : Type 0} (stop : Stop) → asked.watched ≡ true → IsDecidedOutcome (Refused (refusal_of stop))
+        → (CanTell asked (Some stop) → P) → P
+    tells (stops.Format fault) watched on first = first watched
+    tells stops.Memory watched on first = absurd on

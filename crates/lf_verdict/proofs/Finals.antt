@@ -218,6 +218,20 @@ no_more : (xs ys : List (ℕ × Bytes)) → length (xs ++ ys) ≡ length xs → 
 no_more xs [] e = append-nil xs
 no_more xs (y ∷ ys) e = absurd (omega (arith, length-append xs (y ∷ ys)))
 
+-- a reading from which all was taken
+abbrev pub nothing : List ℕ → Reading
+nothing bytes = record (reading_of bytes) { memory = []; records = [] }
+
+pub has : (bytes : List ℕ) → AreBytes bytes →
+    HasRead (nothing bytes) bytes (reading_of bytes).memory (reading_of bytes).records
+has bytes are = record {
+  are_bytes = are;
+  same = λ i. record (reading_of bytes) {
+    memory = sym (append-nil (reading_of bytes).memory) i;
+    records = sym (append-nil (reading_of bytes).records) i;
+  };
+}
+
 module _ (exact : ReadingIsExact) (law : HeaderIsOfItsBytes) (bytes more : List ℕ) (h : Header)
     (records rest : List Record) (are : AreBytes bytes) (are_more : AreBytes more)
     (read : header_of bytes ≡ Some h) (whole : length (reading_of bytes).memory ≡ h.memory_count)
@@ -225,24 +239,11 @@ module _ (exact : ReadingIsExact) (law : HeaderIsOfItsBytes) (bytes more : List 
   abbrev now : Reading
   now = reading_of bytes
 
-  abbrev nothing : Reading
-  nothing = record now { memory = []; records = [] }
-
-  has : HasRead nothing bytes now.memory now.records
-  has = record {
-    are_bytes = are;
-    same = λ i. record now {
-      memory = sym (append-nil now.memory) i;
-      records =
-          sym (append-nil now.records) i;
-    };
-  }
-
   traced : (header : Header) (memory : List (ℕ × Bytes)) (all : List Record) →
       IsTrace (bytes ++ more) header memory all → OfWhole bytes more h records rest header memory all
   traced header memory all trace =
-      let after = has_read_on nothing bytes more now.memory now.records are_more has in
-      let later = read_on nothing more in
+      let after = has_read_on (nothing bytes) bytes more now.memory now.records are_more (has bytes are) in
+      let later = read_on (nothing bytes) more in
       let read_as = (exact (bytes ++ more) header memory all after.are_bytes).1 trace in
       let one : Some header ≡ Some h = sym read_as.1 ∙ header_stays law bytes more h read in
       let same : header ≡ h = cc in
@@ -383,7 +384,7 @@ other_final exact law shape bytes h field are read differs more outcome are_more
 
 -- ---- what a session was fed
 
-few_more : (xs ys : List (ℕ × Bytes)) → length (xs ++ ys) ≤ length xs → xs ++ ys ≡ xs
+pub few_more : (xs ys : List (ℕ × Bytes)) → length (xs ++ ys) ≤ length xs → xs ++ ys ≡ xs
 few_more xs [] le = append-nil xs
 few_more xs (y ∷ ys) le = absurd (omega (arith, length-append xs (y ∷ ys)))
 
@@ -441,7 +442,7 @@ final_if offset law shape bytes memory records (Some (broken.Part fault (Some up
     let upto = is.before ++ is.item ∷ [] in
     let same : records ≡ upto ++ is.after = is.are ∙ sym (append_assoc is.before (is.item ∷ []) is.after) in
     law shape bytes memory upto fault (Some upon) are (begins_fewer shape bytes memory upto is.after
-    (subst (Begins shape bytes memory) same begins)) is.broke
+    (subst (Begins shape bytes memory) same begins)) is.broke.is
 
 -- ... and the record that it names is the first
 pub earliest_if : (shape : Shape) (bytes : List ℕ) (memory : List (ℕ × Bytes)) (records : List Record)

@@ -103,7 +103,7 @@ ran_on s running after reader bytes fed nothing is runs fault has =
         taken = m.1.taken;
         kept = subst (λ (j : Judging). IsKept j m.1.taken s.memory.items) is m.1.kept;
         read = now.1.0;
-        fine = fault ∙ m.1.fine;
+        fine = λ on. fault ∙ m.1.fine on;
         judging = now.1.1;
       },
     )

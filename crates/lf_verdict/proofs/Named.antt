@@ -16,8 +16,8 @@ use Rattle.lf_verdict.specs.declared.answer.HeaderField.{HeaderField}
 use Rattle.lf_verdict.specs.declared.session.breaking.PartFault.{PartFault}
 use Rattle.lf_verdict.specs.declared.session.breaking.PartFault.TheVariants.{Double, Port, Bank}
 use Rattle.lf_verdict.specs.declared.session.breaking.Broken.TheVariants as broken
-use Rattle.lf_verdict.specs.Breaking.{BankBreaks, IsFaultOfPart}
-use Rattle.lf_verdict.specs.Named.{IsNamedBefore, IsNamedFault, HasBegun, OneIsNamed}
+use Rattle.lf_verdict.specs.Breaking.{BankBreaks, IsFaultOfPart, IsNamedBefore, IsNamedFault}
+use Rattle.lf_verdict.specs.Named.{HasBegun, OneIsNamed}
 use Rattle.lf_verdict.specs.Session.{IsOfAnotherHeader}
 use Rattle.lf_verdict.specs.Outcome.{Differs}
 use Rattle.lf_verdict.specs.inner.Noting.{IsPortWhole, IsOfPort, IsOfLowestBank}
@@ -99,7 +99,7 @@ module _ (shape : Shape) (memory : FlatMemory) (records : List Record) where
         (breaks_more OfBank shape (first_local memory) b.gave longer.0 n' rule' b.breaks))
   ]
 
-  one_named : (fault other : PartFault) → IsNamedFault shape memory records fault →
+  pub one_named : (fault other : PartFault) → IsNamedFault shape memory records fault →
       IsNamedFault shape memory records other → fault ≡ other
   one_named (Port p at rule) (Port q at' rule') a b =
       let same : p ≡ q = same_number p q (λ lt. b.first (Port p at rule) lt a.is)

@@ -46,12 +46,16 @@ fault_stays (b ∷ bytes) r fault e =
     let same : byte_read r b ≡ r = ap (λ (f : Option CodecFault). byte_unless f r b) e in
     ap (λ (q : Reading). read_on q bytes) same ∙ fault_stays bytes r fault e
 
+-- nothing is read behind a fault
+pub nothing_behind : (fed rest : List ℕ) (fault : CodecFault) → (reading_of fed).fault ≡ Some fault →
+    reading_of (fed ++ rest) ≡ reading_of fed
+nothing_behind fed rest fault e = read_on_both fed rest nothing_read ∙ fault_stays rest (reading_of fed) fault e
+
 -- a fault that stands in a part of the bytes is the fault of the whole
 fault_of_whole : (fed rest : List ℕ) (fault : CodecFault) → (reading_of fed).fault ≡ Some fault →
     trace_fault (fed ++ rest) ≡ Some fault
 fault_of_whole fed rest fault e =
-    let same : reading_of (fed ++ rest) ≡ reading_of fed = read_on_both fed rest nothing_read
-    ∙ fault_stays rest (reading_of fed) fault e in
+    let same : reading_of (fed ++ rest) ≡ reading_of fed = nothing_behind fed rest fault e in
     ap (λ (r : Reading). fault_of r r.fault) same ∙ ap (fault_of (reading_of fed)) e
 
 pub fault_told : (fault : Option CodecFault) (t : Told CodecFault) → told None fault ≡ Err t → fault ≡ Some (fault_in t)

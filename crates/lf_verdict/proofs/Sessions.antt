@@ -19,7 +19,7 @@ use Rattle.lf_codec.specs.Checks.{judged, header_checks}
 use Rattle.lf_codec.specs.declared.fault.CodecCause.TheVariants.{NoMemory}
 use Rattle.std.proofs.Common.{take}
 use Rattle.std.proofs.lemmas.Bool.{cases_lt}
-use Rattle.lf_verdict.proofs.Pieces.{fault_told, reading_stop}
+use Rattle.lf_verdict.proofs.Pieces.{fault_told, nothing_behind, reading_stop}
 use Rattle.lf_verdict.proofs.Traces.{fits_shape}
 use Rattle.lf_verdict.proofs.Answered.{limit_is_small}
 use Rattle.lf_codec.specs.Reading.{Reading, reading_of, fault_so_far, header_now, header_of}
@@ -39,7 +39,8 @@ use Rattle.lf_verdict.specs.Standing.{IsWatch, StandsAfterAll}
 use Rattle.lf_verdict.specs.inner.Coming.{MayCome, MayAllCome, IsShort, logs_so_far}
 use Rattle.lf_verdict.specs.Session.{IsOfAnotherHeader}
 use Rattle.lf_verdict.specs.inner.Fed.{IsRunning, IsJudging, IsKept, HasJudged, HasFedUntil, HasTaken, HasFed}
-use Rattle.lf_verdict.specs.Session.{refusal_of, stop_told, IsRefusalSoFar}
+use Rattle.lf_verdict.specs.inner.Fed.{IsStopIn}
+use Rattle.lf_verdict.specs.Session.{CanTell, refusal_of, stop_told, IsRefusalSoFar}
 use Rattle.lf_verdict.specs.inner.Taking.{IsLacking}
 use Rattle.lf_verdict.specs.declared.answer.Refusal.{Refusal}
 use Rattle.lf_codec.specs.declared.fault.Told.TheVariants as tolds
@@ -231,17 +232,40 @@ kept_waiting judging taken kept e is = subst (λ (j : Judging). IsKept j taken k
 pub going : (s : Intake) (bytes : List ℕ) → s.stop ≡ None → HasFed s bytes → HasTaken s bytes
 going s bytes e fed = subst (λ (stop : Option Stop). HasFedUntil s bytes stop) e fed
 
+-- ... and one that can tell what broke
+pub can_taken : (s : Intake) (bytes : List ℕ) (stop : Option Stop) → CanTell s.asked stop → HasFedUntil s bytes stop →
+    HasTaken s bytes
+can_taken s bytes None can fed = fed
+can_taken s bytes (Some (stops.Format fault)) can fed = fed.1 can
+can_taken s bytes (Some stops.Memory) can fed = absurd can
+
+-- what was stopped so, and took what stands in the bytes, was fed them
+pub stop_taken : (s t : Intake) (bytes : List ℕ) (stop : Stop) → t.stop ≡ Some stop →
+    HasFedUntil s bytes (Some stop) → HasTaken t bytes → HasFed t bytes
+stop_taken s t bytes stop is at taken = subst (λ (o : Option Stop). HasFedUntil t bytes o) (sym is) (go stop at)
+  where
+    go : (stop : Stop) → HasFedUntil s bytes (Some stop) → HasFedUntil t bytes (Some stop)
+    go (stops.Format fault) at = (at.0, λ _. taken)
+    go stops.Memory at = tt
+
+pub can_going : (s : Intake) → s.stop ≡ None → CanTell s.asked s.stop
+can_going s e = subst (CanTell s.asked) (sym e) tt
+
 -- ---- what stands in the bytes so far
 
 -- a session that nothing stopped was fed bytes without a fault
 pub no_fault_so_far : (s : Intake) (bytes : List ℕ) → s.stop ≡ None → HasFed s bytes → fault_so_far bytes ≡ None
 no_fault_so_far s bytes e fed =
     let m = going s bytes e fed in
-    ap (λ (q : Reading). q.fault) m.1.read.same ∙ m.1.fine
+    ap (λ (q : Reading). q.fault) m.1.read.same ∙ m.1.fine e
 
-pub refusal_so_far : (s : Intake) (bytes : List ℕ) (stop : Stop) → HasFedUntil s bytes (Some stop) →
+pub stop_in : (s : Intake) (bytes : List ℕ) (stop : Stop) → HasFedUntil s bytes (Some stop) → IsStopIn bytes stop
+stop_in s bytes (stops.Format fault) at = at.0
+stop_in s bytes stops.Memory at = tt
+
+refusal_so_far : (s : Intake) (bytes : List ℕ) (stop : Stop) → HasFedUntil s bytes (Some stop) →
     IsRefusalSoFar bytes (refusal_of stop)
-refusal_so_far s bytes (stops.Format fault) at = at.0
+refusal_so_far s bytes (stops.Format fault) at = at.0.0
 refusal_so_far s bytes stops.Memory at = tt
 
 -- what a feed that succeeded, and one that did not, says of the bytes
@@ -288,62 +312,6 @@ both_bytes xs ys a b i =
       | inr le ↦ rw (get_or-append_right xs ys (length xs) i 0 refl le) (b (i - length xs))
     ]
 
-pub stop_stays : FaultsStand → (s : Intake) (bytes piece : List ℕ) (stop : Stop) → AreBytes piece →
-    HasFedUntil s bytes (Some stop) → HasFedUntil s (bytes ++ piece) (Some stop)
-stop_stays law s bytes piece (stops.Format fault) fit at = (
-  (law bytes piece fault at.0).so_far,
-  both_bytes bytes
-      piece at.1 fit,
-)
-stop_stays law s bytes piece stops.Memory fit at = tt
-
--- a reader that has failed since memory ran out, however that came
-pub record Wants (r : Reading) : Type 0 where
-  pub fault : CodecFault
-  pub failed : r.fault ≡ Some fault
-  pub cause : fault.cause ≡ NoMemory
-
-stop_is : (s : Intake) (old : Option CodecFault) (new : Reading) (bytes : List ℕ) (memory : List (ℕ × Bytes))
-    (records : List Record) (t : Told CodecFault) (stop : Stop)
-    → old ≡ None → told old new.fault ≡ Err t → HasRead new bytes memory records ⊎ Wants new →
-    IsStopOf (fault_in t) stop → HasFedUntil s bytes (Some stop)
-stop_is s old new bytes memory records t (stops.Format fault) fine e either is =
-    let here : new.fault ≡ Some (fault_in t) = fault_told new.fault t
-    (sym (ap (λ (f : Option CodecFault). told f new.fault) fine) ∙ e) in
-    ⊎_elim
-    (λ (has : HasRead new bytes memory records). (
-      ap (λ (q : Reading). q.fault) has.same ∙ here
-          ∙ ap Some (sym is.0),
-      has.are_bytes,
-    ))
-    (λ (out : Wants new).
-    let same : Some out.fault ≡ Some (fault_in t) = sym out.failed ∙ here in
-    let one : out.fault ≡ fault_in t = cc in
-    absurd (is.1 (subst (λ (f : CodecFault). f.cause ≡ NoMemory) one out.cause)))
-    either
-stop_is s old new bytes memory records t stops.Memory fine e either is = tt
-
-pub read_stop : (s : Intake) (old : Option CodecFault) (new : Reading) (bytes : List ℕ) (memory : List (ℕ × Bytes))
-    (records : List Record) (t : Told CodecFault) (stop : Stop)
-    → old ≡ None → told old new.fault ≡ Err t
-    → HasRead new bytes memory records ⊎ RanOut new bytes memory records → IsStopOf (fault_in t) stop →
-    HasFedUntil s bytes (Some stop)
-read_stop s old new bytes memory records t stop fine e either =
-    stop_is s old new bytes memory records t stop fine e
-    (⊎_elim inl (λ (out : RanOut new bytes memory records). inr
-    (record { fault = out.fault; failed = out.failed; cause = out.cause })) either)
-
--- the same of a reader that packs what it reads
-pub packed_stop : (s : Intake) (old : Option CodecFault) (new : Reading) (bytes : List ℕ) (memory : List (ℕ × Bytes))
-    (records : List Record) (t : Told CodecFault) (stop : Stop)
-    → old ≡ None → told old new.fault ≡ Err t
-    → HasRead new bytes memory records ⊎ WantsMemory new bytes memory records → IsStopOf (fault_in t) stop →
-    HasFedUntil s bytes (Some stop)
-packed_stop s old new bytes memory records t stop fine e either =
-    stop_is s old new bytes memory records t stop fine e
-    (⊎_elim inl (λ (out : WantsMemory new bytes memory records). inr
-    (record { fault = out.fault; failed = out.has_failed.failed; cause = out.cause })) either)
-
 pub header_stays : HeaderIsOfItsBytes → (bytes piece : List ℕ) (h : Header) → header_of bytes ≡ Some h →
     header_of (bytes ++ piece) ≡ Some h
 header_stays law bytes piece h e = elim (cases_lt (length bytes) 16) [
@@ -355,20 +323,150 @@ header_stays law bytes piece h e = elim (cases_lt (length bytes) 16) [
       ∙ sym (law.whole bytes le) ∙ e
 ]
 
+-- a stop stands whatever bytes follow
+pub stop_in_stays : FaultsStand → (bytes piece : List ℕ) (stop : Stop) → AreBytes piece → IsStopIn bytes stop →
+    IsStopIn (bytes ++ piece) stop
+stop_in_stays law bytes piece (stops.Format fault) fit at = (
+  (law bytes piece fault at.0).so_far,
+  both_bytes bytes
+      piece at.1 fit,
+)
+stop_in_stays law bytes piece stops.Memory fit at = tt
+
+module _ (shape : Shape) (bytes more : List ℕ)
+    (header : (h : Header) → header_of bytes ≡ Some h → header_of more ≡ Some h) where
+  -- the parts stand as they stood where the header is the same
+  running_with : (memory : List (ℕ × Bytes)) (records : List Record) (running : Standing) {ordered : Bool}
+      → IsRunning shape ordered bytes memory records running → IsRunning shape ordered more memory records running
+  running_with memory records running h = record {
+    header = h.header;
+    read = header h.header h.read;
+    agrees = h.agrees;
+    whole = h.whole;
+    stands = h.stands;
+    watched = h.watched;
+    keeping = h.keeping;
+  }
+
+  judging_with : (memory : List (ℕ × Bytes)) (records : List Record) (ordered : Bool) (j : Judging) →
+      IsJudging shape ordered bytes memory records j → IsJudging shape ordered more memory records j
+  judging_with memory records ordered Waiting h = h
+  judging_with memory records ordered (Running running) h = running_with memory records running h
+  judging_with memory records ordered (Another field) h = record {
+    header = h.header;
+    read = header h.header h.read;
+    differs = h.differs;
+  }
+
+-- nothing is taken behind a fault
+taken_stays : (s : Intake) (bytes piece : List ℕ) → AreBytes piece → reading_of (bytes ++ piece) ≡ reading_of bytes →
+    HasTaken s bytes → HasTaken s (bytes ++ piece)
+taken_stays s bytes piece fit same taken =
+    let m = taken.1 in (
+      taken.0,
+      record {
+        in_range = m.in_range;
+        taken = m.taken;
+        kept = m.kept;
+        read = record { are_bytes = both_bytes bytes piece m.read.are_bytes fit; same = same ∙ m.read.same };
+        fine = m.fine;
+        judging = judging_with s.shape bytes (bytes ++ piece) (λ h e. ap header_now same ∙ e) m.taken taken.0
+            s.asked.ordered s.judging m.judging;
+      },
+    )
+
+pub stop_stays : FaultsStand → (s : Intake) (bytes piece : List ℕ) (stop : Stop) → AreBytes piece →
+    HasFedUntil s bytes (Some stop) → HasFedUntil s (bytes ++ piece) (Some stop)
+stop_stays law s bytes piece (stops.Format fault) fit at = (
+  stop_in_stays law bytes piece (stops.Format fault) fit at.0,
+  λ can. taken_stays s bytes piece fit (nothing_behind bytes piece fault at.0.0) (at.1 can),
+)
+stop_stays law s bytes piece stops.Memory fit at = tt
+
+-- a reader that has failed since memory ran out, however that came
+pub record Wants (r : Reading) : Type 0 where
+  pub fault : CodecFault
+  pub failed : r.fault ≡ Some fault
+  pub cause : fault.cause ≡ NoMemory
+
+-- The stop stands in the bytes, and where it is a fault of the format the reader has read them.
+abbrev pub HasStopped : Reading → List ℕ → List (ℕ × Bytes) → List Record → Stop → Type 0
+HasStopped r bytes memory records (stops.Format fault) = IsStopIn bytes (stops.Format fault) ×
+    HasRead r bytes memory records
+HasStopped r bytes memory records stops.Memory = Unit {0}
+
+stop_is : (old : Option CodecFault) (new : Reading) (bytes : List ℕ) (memory : List (ℕ × Bytes))
+    (records : List Record) (t : Told CodecFault) (stop : Stop)
+    → old ≡ None → told old new.fault ≡ Err t → HasRead new bytes memory records ⊎ Wants new →
+    IsStopOf (fault_in t) stop → HasStopped new bytes memory records stop
+stop_is old new bytes memory records t (stops.Format fault) fine e either is =
+    let here : new.fault ≡ Some (fault_in t) = fault_told new.fault t
+    (sym (ap (λ (f : Option CodecFault). told f new.fault) fine) ∙ e) in
+    ⊎_elim
+    (λ (has : HasRead new bytes memory records). (
+      (ap (λ (q : Reading). q.fault) has.same ∙ here ∙ ap Some (sym is.0), has.are_bytes),
+      has,
+    ))
+    (λ (out : Wants new).
+    let same : Some out.fault ≡ Some (fault_in t) = sym out.failed ∙ here in
+    let one : out.fault ≡ fault_in t = cc in
+    absurd (is.1 (subst (λ (f : CodecFault). f.cause ≡ NoMemory) one out.cause)))
+    either
+stop_is old new bytes memory records t stops.Memory fine e either is = tt
+
+-- what stops a session, and what it has taken then
+pub read_stop : HeaderIsOfItsBytes → (s : Intake) (bytes piece : List ℕ) (records : List Record)
+    (was : HasJudged s bytes records) (new : Reading) (t : Told CodecFault) (stop : Stop)
+    → s.stop ≡ None → told s.reader.fault new.fault ≡ Err t
+    → HasRead new (bytes ++ piece) was.taken records ⊎ RanOut new (bytes ++ piece) was.taken records
+    → IsStopOf (fault_in t) stop
+    → HasFedUntil (record s { reader = new; stop = Some stop }) (bytes ++ piece) (Some stop)
+read_stop law s bytes piece records was new t stop on e either is = go stop
+    (stop_is s.reader.fault new (bytes ++ piece) was.taken records t stop (was.fine on) e
+    (⊎_elim inl (λ (out : RanOut new (bytes ++ piece) was.taken records). inr
+    (record { fault = out.fault; failed = out.failed; cause = out.cause })) either) is)
+  where
+    go : (stop : Stop) → HasStopped new (bytes ++ piece) was.taken records stop →
+        HasFedUntil (record s { reader = new; stop = Some stop }) (bytes ++ piece) (Some stop)
+    go (stops.Format fault) at = (
+      at.0,
+      λ can. (
+        records,
+        record {
+          in_range = was.in_range;
+          taken = was.taken;
+          kept = was.kept;
+          read = at.1;
+          fine = λ on. let no : Some (stops.Format fault) ≡ None = on in absurd (cc);
+          judging = judging_with s.shape bytes (bytes ++ piece) (header_stays law bytes piece) was.taken records
+              s.asked.ordered s.judging was.judging;
+        },
+      ),
+    )
+    go stops.Memory at = tt
+
+-- what stops a reader that packs what it reads
+pub packed_stop : (old : Option CodecFault) (new : Reading) (bytes : List ℕ) (memory : List (ℕ × Bytes))
+    (records : List Record) (t : Told CodecFault) (stop : Stop)
+    → old ≡ None → told old new.fault ≡ Err t
+    → HasRead new bytes memory records ⊎ WantsMemory new bytes memory records → IsStopOf (fault_in t) stop →
+    IsStopIn bytes stop
+packed_stop old new bytes memory records t stop fine e either is = go stop
+    (stop_is old new bytes memory records t stop fine e
+    (⊎_elim inl (λ (out : WantsMemory new bytes memory records). inr
+    (record { fault = out.fault; failed = out.has_failed.failed; cause = out.cause })) either) is)
+  where
+    go : (stop : Stop) → HasStopped new bytes memory records stop → IsStopIn bytes stop
+    go (stops.Format fault) at = at.0
+    go stops.Memory at = tt
+
 -- the parts stand as they stood where more bytes come
 pub running_on : HeaderIsOfItsBytes → (shape : Shape) (bytes piece : List ℕ) (memory : List (ℕ × Bytes))
     (records : List Record) (running : Standing) {ordered : Bool}
     → IsRunning shape ordered bytes memory records running
     → IsRunning shape ordered (bytes ++ piece) memory records running
-running_on law shape bytes piece memory records running h = record {
-  header = h.header;
-  read = header_stays law bytes piece h.header h.read;
-  agrees = h.agrees;
-  whole = h.whole;
-  stands = h.stands;
-  watched = h.watched;
-  keeping = h.keeping;
-}
+running_on law shape bytes piece memory records running h =
+    running_with shape bytes (bytes ++ piece) (header_stays law bytes piece) memory records running h
 
 pub judged_feed : HeaderIsOfItsBytes → (s : Intake) (bytes piece : List ℕ) (records : List Record) (new : Reading)
     (was : HasJudged s bytes records)
@@ -379,18 +477,7 @@ judged_feed law s bytes piece records new was read fine = record {
   taken = was.taken;
   kept = was.kept;
   read = read;
-  fine =
-      fine;
-  judging = go s.judging was.judging;
+  fine = λ _. fine;
+  judging = judging_with s.shape bytes (bytes ++ piece) (header_stays law bytes piece) was.taken records
+      s.asked.ordered s.judging was.judging;
 }
-  where
-    go : (j : Judging) → IsJudging s.shape s.asked.ordered bytes was.taken records j →
-        IsJudging s.shape s.asked.ordered (bytes ++ piece) was.taken records j
-    go Waiting h = h
-    go (Running running) h = running_on law s.shape bytes piece was.taken records running h
-    go (Another field) h = record {
-      header = h.header;
-      read = header_stays law bytes piece h.header h.read;
-      differs =
-          h.differs;
-    }

@@ -10,9 +10,9 @@ use Rattle.lf_codec.specs.Reading.{Reading, reading_of, header_now}
 use Rattle.lf_verdict.specs.declared.session.breaking.PartFault.{PartFault}
 use Rattle.lf_verdict.specs.declared.session.intake.Intake.{Intake}
 use Rattle.lf_verdict.specs.declared.session.standing.Standing.{Standing}
-use Rattle.lf_verdict.specs.Breaking.{NoneBroke}
+use Rattle.lf_verdict.specs.Breaking.{IsNamedFault, NoneBroke}
 use Rattle.lf_verdict.specs.Legal.{Agrees}
-use Rattle.lf_verdict.specs.Named.{IsNamedFault, IsNamedSoFar, HasBegun, NoneBrokeSoFar}
+use Rattle.lf_verdict.specs.Named.{IsNamedSoFar, HasBegun, NoneBrokeSoFar}
 use Rattle.lf_verdict.specs.Session.{HeaderAgrees}
 use Rattle.lf_verdict.specs.inner.Fed.{HasJudged, IsRunning}
 use Rattle.lf_verdict.specs.inner.Taking.{IsLacking}

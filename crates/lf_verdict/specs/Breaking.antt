@@ -1,5 +1,5 @@
 -- Faults of a part of the records so far, and upon which record the first of them came.
-use Rattle.std.specs.Prelude.{◌≡◌, ℕ, ◌+◌, ◌<◌, List, [], ◌∷◌, ◌++◌, length, slice_get}
+use Rattle.std.specs.Prelude.{◌≡◌, ◌⊎◌, ℕ, ◌+◌, ◌<◌, ◌≤◌, List, [], ◌∷◌, ◌++◌, length, slice_get}
 use Rattle.std.specs.List.{flat_map}
 use Rattle.lf_rules.specs.declared.shape.Shape.{Shape}
 use Rattle.lf_rules.specs.declared.event.Record.{Record}
@@ -37,6 +37,23 @@ IsFaultOfPart shape memory records (Port port at rule) = (port < shape.ports) ×
     BreaksAt OfPort shape (first_local memory) (of_log port records) at rule
 IsFaultOfPart shape memory records (Bank bank number rule) = BankBreaks shape memory records bank number rule
 
+-- Ports are named before banks, and lower ones first; of a bank a rule before a double number, and the least number.
+abbrev pub IsNamedBefore : PartFault → PartFault → Type 0
+IsNamedBefore (Port port at rule) (Port port' at' rule') = port < port'
+IsNamedBefore (Port port at rule) (Bank bank number rule') = Unit {0}
+IsNamedBefore (Port port at rule) (Double bank k) = Unit {0}
+IsNamedBefore (Bank bank number rule) (Port port at rule') = ⊥
+IsNamedBefore (Bank bank number rule) (Bank bank' number' rule') = bank < bank'
+IsNamedBefore (Bank bank number rule) (Double bank' k) = bank ≤ bank'
+IsNamedBefore (Double bank k) (Port port at rule) = ⊥
+IsNamedBefore (Double bank k) (Bank bank' number rule) = bank < bank'
+IsNamedBefore (Double bank k) (Double bank' k') = (bank < bank') ⊎ ((bank ≡ bank') × (k < k'))
+
+-- The fault is one of a part, and none that is named before it is.
+pub record IsNamedFault (shape : Shape) (memory : FlatMemory) (records : List Record) (fault : PartFault) : Type 0 where
+  pub is : IsFaultOfPart shape memory records fault
+  pub first : (other : PartFault) → IsNamedBefore other fault → ¬ IsFaultOfPart shape memory records other
+
 -- no part of the records that came is at fault
 abbrev pub NoneBroke : Shape → FlatMemory → List Record → Type 0
 NoneBroke shape memory records = (fault : PartFault) → ¬ IsFaultOfPart shape memory records fault
@@ -55,7 +72,8 @@ pub record IsPlaceOf (start : ℕ) (before : List Record) (item : Record) (upon 
   pub at : upon.at ≡ length (of_log item.log before)
   pub offset : upon.offset ≡ offset_after start before
 
--- The record at this place is the first upon which a part broke, and this fault broke upon it.
+-- The record at this place is the first upon which a part broke, and of the faults that broke upon it this one is
+-- named.
 pub record IsFirstBreak (start : ℕ) (shape : Shape) (memory : FlatMemory) (records : List Record) (fault : PartFault)
     (upon : Upon) : Type 0 where
   pub before : List Record
@@ -64,4 +82,4 @@ pub record IsFirstBreak (start : ℕ) (shape : Shape) (memory : FlatMemory) (rec
   pub are : records ≡ before ++ item ∷ after
   pub place : IsPlaceOf start before item upon
   pub whole : NoneBroke shape memory before
-  pub broke : IsFaultOfPart shape memory (before ++ item ∷ []) fault
+  pub broke : IsNamedFault shape memory (before ++ item ∷ []) fault

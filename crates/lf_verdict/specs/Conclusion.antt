@@ -10,25 +10,31 @@ use Rattle.lf_verdict.specs.declared.answer.Refusal.TheVariants as refusals
 use Rattle.lf_verdict.specs.declared.answer.Verdict.{Verdict}
 use Rattle.lf_verdict.specs.declared.answer.Verdict.TheVariants as verdicts
 use Rattle.lf_verdict.specs.declared.session.asked.Asked.{Asked}
+use Rattle.lf_verdict.specs.declared.session.breaking.Broken.{Broken}
 use Rattle.lf_verdict.specs.declared.session.conclusion.Conclusion.{Conclusion}
 use Rattle.lf_verdict.specs.Final.{IsFinal, IsEarliest, NoneBrokeInTrace}
 use Rattle.lf_verdict.specs.Incomplete.{IsIncompleteFor}
 use Rattle.lf_verdict.specs.Laws.{IsRunlessOutcome}
 use Rattle.lf_verdict.specs.Legal.{IsLegal}
+use Rattle.lf_verdict.specs.Named.{NoneBrokeSoFar}
 use Rattle.lf_verdict.specs.Outcome.{IsOutcomeOf, IsDecidedOutcome, IsYesOutcome}
 use Rattle.lf_verdict.specs.Statistics.{AreStatisticsOf}
 use Rattle.lf_verdict.specs.Verdict.{IsLeastYes}
 
--- the conclusion of a refusal
-abbrev pub refused : Fed → Refusal → Conclusion
-refused fed refusal = record {
+-- the conclusion of a refusal, where this broke before
+abbrev pub refused_after : Option Broken → Fed → Refusal → Conclusion
+refused_after broken fed refusal = record {
   fed = fed;
   outcome = Refused refusal;
   order = None;
-  broken = None;
+  broken = broken;
   incomplete = None;
   statistics = None;
 }
+
+-- ... and where nothing did
+abbrev pub refused : Fed → Refusal → Conclusion
+refused = refused_after None
 
 -- where memory ran out
 abbrev pub without_memory : Fed → Conclusion
@@ -67,6 +73,8 @@ pub record IsConclusion (asked : Asked) (shape : Shape) (c : Conclusion) : Type 
   pub broken : IfSome c.broken (IsFinal shape c.fed.bytes)
   pub earliest : IfSome c.broken (IsEarliest shape c.fed.bytes)
   pub none : IsDecidedOutcome c.outcome → asked.watched ≡ true → IfNone c.broken (NoneBrokeInTrace shape c.fed.bytes)
+  pub none_so_far : IsDecidedOutcome c.outcome → asked.watched ≡ true →
+      IfNone c.broken (NoneBrokeSoFar shape c.fed.bytes)
   pub incomplete : IsIncompleteFor shape c.fed.bytes c.outcome c.incomplete
   -- the statistics, which are told after a yes alone
   pub statistics : IfSome c.statistics (AreStatisticsOf shape c.fed.bytes)

@@ -1,12 +1,13 @@
 -- Which faults stand, whatever bytes follow.
-use Rattle.std.specs.Prelude.{◌≡◌, ◌⊎◌, ℕ, ◌<◌, ◌≤◌, List, ◌++◌, length, Option, Some, None}
+use Rattle.std.specs.Prelude.{◌≡◌, ◌⊎◌, ℕ, ◌<◌, ◌≤◌, List, ◌++◌, length, Option, Some, None, IfSome, IfNone}
 use Rattle.lf_rules.specs.declared.shape.Shape.{Shape}
 use Rattle.lf_rules.specs.declared.event.Record.{Record}
 use Rattle.lf_rules.specs.Address.{flat_memory}
 use Rattle.lf_rules.specs.Fits.{Bytes}
 use Rattle.lf_codec.specs.declared.header.Header.{Header}
 use Rattle.lf_codec.specs.Laws.{AreBytes}
-use Rattle.lf_codec.specs.Reading.{reading_of, header_of}
+use Rattle.lf_codec.specs.declared.fault.CodecFault.{CodecFault}
+use Rattle.lf_codec.specs.Reading.{reading_of, header_of, fault_so_far}
 use Rattle.lf_verdict.specs.declared.session.breaking.PartFault.{PartFault}
 use Rattle.lf_verdict.specs.declared.session.breaking.PartFault.TheVariants as parts
 use Rattle.lf_verdict.specs.declared.session.breaking.Upon.{Upon}
@@ -15,6 +16,7 @@ use Rattle.lf_verdict.specs.declared.session.breaking.Broken.TheVariants as brok
 use Rattle.lf_verdict.specs.declared.answer.HeaderField.{HeaderField}
 use Rattle.lf_verdict.specs.Breaking.{first_offset, IsFaultOfPart, NoneBroke, IsFirstBreak}
 use Rattle.lf_verdict.specs.Legal.{Agrees, IsTraceFor}
+use Rattle.lf_verdict.specs.Named.{NoneBrokeSoFar}
 use Rattle.lf_verdict.specs.Session.{IsOfAnotherHeader}
 use Rattle.lf_verdict.specs.declared.answer.Fault.{Fault}
 use Rattle.lf_verdict.specs.declared.answer.Fault.TheVariants.{Missing, Double, Port, Bank}
@@ -76,7 +78,8 @@ OtherHeadersAreFinal = (shape : Shape) (bytes : List ℕ) (header : Header) (fie
 
 -- ---- what a session says
 
--- The record at this place is the first of the records so far upon which a part broke, and the fault broke upon it.
+-- The record at this place is the first of the records so far upon which a part broke, and of the faults that broke
+-- upon it this one is named.
 pub record IsFirstOf (shape : Shape) (bytes : List ℕ) (fault : PartFault) (upon : Upon) : Type 0 where
   pub memory : List (ℕ × Bytes)
   pub records : List Record
@@ -93,3 +96,25 @@ IsEarliest shape bytes (broken.Part fault (Some upon)) = IsFirstOf shape bytes f
 abbrev pub NoneBrokeInTrace : Shape → List ℕ → Type 0
 NoneBrokeInTrace shape bytes = (memory : List (ℕ × Bytes)) (logs : List (List Record))
     (trace : IsTraceFor shape bytes memory logs) → NoneBroke shape (flat_memory memory) trace.records
+
+-- This is told of what broke first in the bytes.
+pub record IsToldFirst (shape : Shape) (bytes : List ℕ) (found : Option Broken) : Type 0 where
+  pub earliest : IfSome found (IsEarliest shape bytes)
+  pub none : IfNone found (NoneBrokeSoFar shape bytes)
+
+-- ---- the laws of what is told
+
+-- Of the same bytes one thing is told.
+abbrev pub OneIsEarliest : Type 0
+OneIsEarliest = (shape : Shape) (bytes : List ℕ) (found other : Option Broken) → IsToldFirst shape bytes found →
+    IsToldFirst shape bytes other → found ≡ other
+
+-- What broke first stays so, whatever bytes follow.
+abbrev pub EarliestStays : Type 0
+EarliestStays = (shape : Shape) (bytes more : List ℕ) (found : Broken) → AreBytes bytes → AreBytes more →
+    IsEarliest shape bytes found → IsEarliest shape (bytes ++ more) found
+
+-- Behind a fault of the format nothing breaks.
+abbrev pub NoneBreaksBehind : Type 0
+NoneBreaksBehind = (shape : Shape) (bytes more : List ℕ) (fault : CodecFault) → fault_so_far bytes ≡ Some fault →
+    NoneBrokeSoFar shape bytes → NoneBrokeSoFar shape (bytes ++ more)

@@ -1,34 +1,15 @@
--- Which of several faults is named, where none is known to be the first.
-use Rattle.std.specs.Prelude.{◌≡◌, ◌⊎◌, ℕ, ◌<◌, ◌≤◌, List, length, Some, None}
+-- What is named where it is not known which of several faults is the first.
+use Rattle.std.specs.Prelude.{◌≡◌, ℕ, List, length, Some, None}
 use Rattle.lf_rules.specs.declared.shape.Shape.{Shape}
-use Rattle.lf_rules.specs.declared.event.Record.{Record}
-use Rattle.lf_rules.specs.Address.{FlatMemory, flat_memory}
+use Rattle.lf_rules.specs.Address.{flat_memory}
 use Rattle.lf_codec.specs.declared.header.Header.{Header}
 use Rattle.lf_codec.specs.Reading.{reading_of, header_of}
 use Rattle.lf_verdict.specs.declared.session.breaking.PartFault.{PartFault}
-use Rattle.lf_verdict.specs.declared.session.breaking.PartFault.TheVariants.{Double, Port, Bank}
 use Rattle.lf_verdict.specs.declared.session.breaking.Broken.{Broken}
 use Rattle.lf_verdict.specs.declared.session.breaking.Broken.TheVariants as broken
-use Rattle.lf_verdict.specs.Breaking.{IsFaultOfPart, NoneBroke}
+use Rattle.lf_verdict.specs.Breaking.{IsNamedFault, NoneBroke}
 use Rattle.lf_verdict.specs.Legal.{Agrees}
 use Rattle.lf_verdict.specs.Session.{IsOfAnotherHeader, HeaderAgrees}
-
--- Ports are named before banks, and lower ones first; of a bank a rule before a double number, and the least number.
-abbrev pub IsNamedBefore : PartFault → PartFault → Type 0
-IsNamedBefore (Port port at rule) (Port port' at' rule') = port < port'
-IsNamedBefore (Port port at rule) (Bank bank number rule') = Unit {0}
-IsNamedBefore (Port port at rule) (Double bank k) = Unit {0}
-IsNamedBefore (Bank bank number rule) (Port port at rule') = ⊥
-IsNamedBefore (Bank bank number rule) (Bank bank' number' rule') = bank < bank'
-IsNamedBefore (Bank bank number rule) (Double bank' k) = bank ≤ bank'
-IsNamedBefore (Double bank k) (Port port at rule) = ⊥
-IsNamedBefore (Double bank k) (Bank bank' number rule) = bank < bank'
-IsNamedBefore (Double bank k) (Double bank' k') = (bank < bank') ⊎ ((bank ≡ bank') × (k < k'))
-
--- The fault is one of a part, and none that is named before it is.
-pub record IsNamedFault (shape : Shape) (memory : FlatMemory) (records : List Record) (fault : PartFault) : Type 0 where
-  pub is : IsFaultOfPart shape memory records fault
-  pub first : (other : PartFault) → IsNamedBefore other fault → ¬ IsFaultOfPart shape memory records other
 
 -- The header is there and agrees with the shape, and the memory is whole.
 pub record HasBegun (shape : Shape) (bytes : List ℕ) : Type 0 where

@@ -1,5 +1,5 @@
 -- What a session answers.
-use Rattle.std.specs.Prelude.{◌≡◌, ℕ, List, Option, Some, None, Result, Ok, Err}
+use Rattle.std.specs.Prelude.{◌≡◌, ℕ, true, List, Option, Some, None, Result, Ok, Err}
 use Rattle.lf_rules.specs.declared.shape.Shape.{Shape}
 use Rattle.lf_codec.specs.declared.header.Header.{Header}
 use Rattle.lf_codec.specs.declared.fault.Told.{Told}
@@ -10,6 +10,7 @@ use Rattle.lf_verdict.specs.declared.stop.Stop.TheVariants as stops
 use Rattle.lf_verdict.specs.declared.answer.HeaderField.{HeaderField}
 use Rattle.lf_verdict.specs.declared.answer.Refusal.{Refusal}
 use Rattle.lf_verdict.specs.declared.answer.Refusal.TheVariants as refusals
+use Rattle.lf_verdict.specs.declared.session.asked.Asked.{Asked}
 use Rattle.lf_verdict.specs.Configured.{IsConfigFault}
 use Rattle.lf_verdict.specs.Legal.{Agrees}
 use Rattle.lf_verdict.specs.Outcome.{Differs}
@@ -33,6 +34,13 @@ abbrev pub stop_told : Option Stop → Option Stop → Result (Unit {0}) (Told R
 stop_told (Some stop) after = Err (tolds.Failed (refusal_of stop))
 stop_told None (Some stop) = Err (tolds.Fault (refusal_of stop))
 stop_told None None = Ok tt
+
+-- It is known whether something broke: nothing stopped the session; or a fault of the format did, and it was asked what
+-- broke first. Where memory ran out, not all that came is judged.
+abbrev pub CanTell : Asked → Option Stop → Type 0
+CanTell asked None = Unit {0}
+CanTell asked (Some (stops.Format fault)) = asked.watched ≡ true
+CanTell asked (Some stops.Memory) = ⊥
 
 -- The fault of the format that stands in the bytes so far, whatever comes after them, or out of memory.
 abbrev pub IsRefusalSoFar : List ℕ → Refusal → Type 0

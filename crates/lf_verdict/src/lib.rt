@@ -21,8 +21,8 @@ mod text;
 pub use answer::{Fault, HeaderField, Outcome, Refusal, Verdict};
 pub use laws::{
     collected_logs_are_in_order, mixtures_are_alike, mixtures_are_alike_for, no_has_no_run,
-    one_is_named, other_headers_are_final, part_faults_are_final, verdicts_are_one,
-    verdicts_for_are_one, workers_are_alike, yes_is_legal,
+    one_is_earliest, one_is_named, other_headers_are_final, part_faults_are_final,
+    verdicts_are_one, verdicts_for_are_one, workers_are_alike, yes_is_legal,
 };
 pub use lf_logs::Incomplete;
 pub use lf_pool::{Gate, NoGate, is_worker_count};

@@ -17,7 +17,7 @@ use Rattle.lf_verdict.specs.Laws.{IsRunlessOutcome}
 use Rattle.lf_verdict.specs.Named.{NoneBrokeSoFar}
 use Rattle.lf_verdict.specs.Outcome.{IsDecidedOutcome, IsOutcomeOf}
 use Rattle.lf_verdict.specs.Seen.{Seen}
-use Rattle.lf_verdict.specs.Session.{IsConfigRefusal, IsRefusalSoFar, refusal_of}
+use Rattle.lf_verdict.specs.Session.{CanTell, IsConfigRefusal, IsRefusalSoFar, refusal_of}
 use Rattle.lf_verdict.specs.Text.{broken_text}
 use Rattle.run_engine.specs.Line.{outcome_text}
 use Rattle.library_c.specs.declared.answer.Answer.{Answer}
@@ -128,12 +128,12 @@ pub record IsBroken (s : Seen) (found : Broken) : Type 0 where
   pub final : IsFinal s.shape s.fed found
   pub earliest : IsEarliest s.shape s.fed found
 
--- The line of what broke; or 0, and no part of the records so far is at fault, unless the session was stopped.
+-- The line of what broke; or 0, and no part of the records so far is at fault, unless memory ran out.
 abbrev pub IsAsking : Option Seen → Answer → List ℕ → List ℕ → Type 0
 IsAsking None answer line line' = IsSilent 3 answer line line'
 IsAsking (Some s) answer line line' =
     ((found : Broken) × IsBroken s found × IsLine (broken_status found) (broken_words found) answer line line')
-    ⊎ ((s.stop ≡ None → NoneBrokeSoFar s.shape s.fed) × IsSilent 0 answer line line')
+    ⊎ ((CanTell s.asked s.stop → NoneBrokeSoFar s.shape s.fed) × IsSilent 0 answer line line')
 
 -- ---- the verdict
 

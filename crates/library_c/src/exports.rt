@@ -5,7 +5,7 @@ ghost use Rattle.lf_rules.specs.InRange.{IsShape};
 ghost use Rattle.lf_config.specs.Configuration.{configuration_of};
 ghost use Rattle.lf_verdict.specs.declared.answer.Outcome.{Outcome};
 ghost use Rattle.lf_verdict.specs.Named.{NoneBrokeSoFar};
-ghost use Rattle.lf_verdict.specs.Session.{IsConfigRefusal};
+ghost use Rattle.lf_verdict.specs.Session.{CanTell, IsConfigRefusal};
 ghost use Rattle.run_engine.specs.Line.{outcome_text};
 ghost use Rattle.library_c.specs.Answers.{IsLine, IsOpened, IsNoConfiguration, IsOpening, IsFedMore, IsFeeding};
 ghost use Rattle.library_c.specs.Answers.{IsFedTold, IsFeedingTold, IsBroken, IsAsking, IsJudged, IsFinishing};
@@ -150,14 +150,17 @@ pub extern "C" fn wudzark_feed_told(
 fn broken(session: &Session) -> Option<Broken>
     requires { session.now.asked.watched ≡ true }
     ensures some { IfSome result (IsBroken session.now) }
-    ensures none { session.now.stop ≡ None → IfNone result (NoneBrokeSoFar session.now.shape session.now.fed) }
+    ensures none { CanTell session.now.asked session.now.stop
+        → IfNone result (NoneBrokeSoFar session.now.shape session.now.fed) }
 {
     session.broken()
 }
 
 /// Whether something broke for good: whatever bytes follow, no yes does. Then the line says what broke, with status 1
 /// for a part that is at fault and 2 for a header of another hierarchy. Status 0: no part of the records so far is at
-/// fault, or a refused feed stopped the board. Status 3: the board is not open. The board stays as it is.
+/// fault, or memory ran out in a feed. Status 3: the board is not open. The board stays as it is. After a feed that
+/// refused a fault of the format, it tells what stands before that, so what is told does not depend on how the bytes
+/// were cut.
 #[unsafe(no_mangle)]
 pub extern "C" fn wudzark_broken(alloc: Global, board: &mut Board, line: &mut [u8]) -> Answer
     ensures same { board.new.held.session ≡ board.old.held.session }

@@ -30,6 +30,7 @@ module _ (old new : Account) (needs : Needs) (shape : Shape) where
       broken = tt;
       earliest = tt;
       none = λ decided _. absurd decided;
+      none_so_far = λ decided _. absurd decided;
       incomplete = refl;
       statistics = tt;
       after_yes = λ (some : IsSome {T = Stats} None). absurd (cc);

@@ -1,5 +1,6 @@
 pub mod Broken
 pub mod GatheringLemmas
+pub mod Watches
 pub mod JudgingLemmas
 pub mod TellingLemmas
 pub mod Whole

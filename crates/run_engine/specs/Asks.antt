@@ -1,15 +1,12 @@
 -- Which text is due for each thing that can be asked.
 use Rattle.std.specs.Prelude.{◌≡◌, ℕ, List, [], ◌∷◌, ◌++◌, codes, Option, Some, None}
 use Rattle.lf_rules.specs.declared.shape.Shape.{Shape}
-use Rattle.lf_codec.specs.declared.fault.CodecCause.{CodecCause}
-use Rattle.lf_codec.specs.declared.fault.CodecCause.TheVariants.{Truncated}
 use Rattle.lf_logs.specs.declared.incomplete.Incomplete.{Incomplete}
 use Rattle.lf_logs.specs.Incomplete.{incomplete_text}
 use Rattle.lf_stats.specs.declared.counts.Stats.{Stats}
 use Rattle.lf_stats.specs.Text.{stats_text}
 use Rattle.lf_verdict.specs.declared.answer.Outcome.{Outcome}
-use Rattle.lf_verdict.specs.declared.answer.Outcome.TheVariants.{Yes, Refused}
-use Rattle.lf_verdict.specs.declared.answer.Refusal.TheVariants.{Format}
+use Rattle.lf_verdict.specs.declared.answer.Outcome.TheVariants.{Yes}
 use Rattle.lf_verdict.specs.declared.session.breaking.Broken.{Broken}
 use Rattle.lf_verdict.specs.declared.session.conclusion.Conclusion.{Conclusion}
 use Rattle.lf_verdict.specs.Statistics.{AreStatisticsOf}
@@ -39,21 +36,13 @@ IsCompletion None c text = text ≡ line_of c.outcome
 abbrev pub broken_line : Broken → List ℕ
 broken_line found = codes "broken " ++ broken_text found ++ 10 ∷ []
 
--- It is told unless a fault of the format stands, which is not that the bytes end too early.
-abbrev pub unless_cut : CodecCause → Option Broken → Option Broken
-unless_cut Truncated found = found
-unless_cut _ found = None
-
-abbrev pub watched : Outcome → Option Broken → Option Broken
-watched (Refused (Format fault)) found = unless_cut fault.cause found
-watched outcome found = found
-
+-- its line where something did, and otherwise that of the verdict
 abbrev pub watched_line : Outcome → Option Broken → List ℕ
 watched_line outcome (Some found) = broken_line found
 watched_line outcome None = line_of outcome
 
 abbrev pub IsWatched : Option Shape → Conclusion → List ℕ → Type 0
-IsWatched (Some shape) c text = text ≡ watched_line c.outcome (watched c.outcome c.broken)
+IsWatched (Some shape) c text = text ≡ watched_line c.outcome c.broken
 IsWatched None c text = text ≡ line_of c.outcome
 
 -- ---- what is told of a legal trace

@@ -3,5 +3,6 @@ pub mod Run
 pub mod Program
 pub mod Needs
 pub mod Asks
+pub mod Watching
 pub mod Line
 pub mod Gathered

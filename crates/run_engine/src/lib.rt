@@ -16,15 +16,17 @@ mod asks;
 mod commands;
 mod fault;
 mod judging;
+mod laws;
 mod line;
 mod running;
 mod telling;
 
 pub use ask::{Ask, Needs};
-pub use asks::{Check, Complete, Statistics, Watch, watched};
+pub use asks::{Check, Complete, Statistics, Watch};
 pub use commands::{run, run_check, run_complete, run_shape, run_stats, run_watch};
 pub use fault::RunFault;
 pub use judging::{Judged, judge};
+pub use laws::watches_are_one;
 pub use line::{InputFault, Line, no_memory_line, not_read_line, outcome_line};
 pub use run_stream::Counted;
 pub use running::{run_for, run_on, shape_for};

@@ -9,6 +9,22 @@ use std::test::Fail;
 use std::thread::Threads;
 use trace_samples::{C1_TEXT, LOAD_MISSES_BOTH_LEVELS};
 
+/// Fails where another line is written for the bytes, in whatever pieces they are read.
+fn assert_watched_in_all<T: Abort + AllocGlobal + Threads + Sync + Send + Copy + 'static>(
+    rt: &T,
+    bytes: &[u8],
+    line: &str,
+) -> Result<(), Fail> {
+    for shorter in 0..bytes.len() {
+        let mut reader = Counted::new(Pieces::new(bytes, shorter + 1));
+        let mut writer = Counted::new(Vec::new(rt.alloc()));
+        let answer = run_watch(rt, &mut reader, &mut writer, C1_TEXT, 100_000);
+        assert_eq!(rt; writer.inner().as_slice(), line.as_bytes());
+        assert!(rt; answer.is_ok());
+    }
+    Ok(())
+}
+
 /// Fails where another line is written for the bytes, which are read in pieces of so many, or another number of reads
 /// is made.
 fn assert_watched<T: Abort + AllocGlobal + Threads + Sync + Send + Copy + 'static>(
@@ -51,5 +67,24 @@ fn nothing_is_read_behind_a_broken_record(rt: HostRuntime) -> Result<(), Fail> {
         let upon = Some(Upon { log, at, offset });
         assert_eq!(rt; told.broken, Some(Broken::Part { fault, upon }));
     }
+    Ok(())
+}
+
+#[test]
+fn what_comes_first_is_told(rt: HostRuntime) -> Result<(), Fail> {
+    let mut bytes = [0u8; 133];
+    bytes[..132].copy_from_slice(&LOAD_MISSES_BOTH_LEVELS);
+    // A byte behind the end of a legal trace.
+    assert_watched_in_all(&rt, &bytes, "refused format Trailing at=132\n")?;
+    // The reply has a wrong byte.
+    bytes[116] = 1;
+    let broken = "broken bank=0 number=5 rule=ReplyData upon log=0 event=1 at=104\n";
+    assert_watched_in_all(&rt, &bytes, broken)?;
+    assert_watched_in_all(&rt, &bytes[..132], broken)?;
+    // A record of no kind, behind the reply, and then before it.
+    bytes[124] = 0xff;
+    assert_watched_in_all(&rt, &bytes, broken)?;
+    bytes[36] = 0xff;
+    assert_watched_in_all(&rt, &bytes, "refused format Kind at=36\n")?;
     Ok(())
 }

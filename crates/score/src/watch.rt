@@ -6,7 +6,7 @@ use crate::progress::Answer;
 use crate::refused;
 use crate::trace::Trace;
 use lf_verdict::{Broken, Conclusion};
-use run_engine::{Counted, RunFault, run_watch, watched};
+use run_engine::{Counted, RunFault, run_watch};
 use std::io;
 use std::rt::Files;
 use std::thread::Threads;
@@ -15,7 +15,7 @@ fn ending_of(answer: Result<Conclusion, RunFault>) -> Ending {
     let Ok(conclusion) = answer else {
         return Ending::Refused;
     };
-    match watched(&conclusion.outcome, conclusion.broken) {
+    match conclusion.broken {
         Some(Broken::Part { .. }) => Ending::No,
         Some(Broken::Header(_)) => Ending::Refused,
         None => Ending::of(&conclusion.outcome),

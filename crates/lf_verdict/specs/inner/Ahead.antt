@@ -10,7 +10,8 @@ use Rattle.lf_verdict.specs.declared.session.intake.Judging.{Judging}
 use Rattle.lf_verdict.specs.declared.session.intake.Judging.TheVariants.{Running}
 use Rattle.lf_verdict.specs.declared.session.workers.Workers.{Workers}
 use Rattle.lf_verdict.specs.declared.stop.Stop.{Stop}
-use Rattle.lf_verdict.specs.inner.Fed.{HasTaken, HasFedUntil, IsRunningNow, IsAsAsked, IsPlain}
+use Rattle.lf_verdict.specs.Session.{CanTell}
+use Rattle.lf_verdict.specs.inner.Fed.{HasTaken, IsStopIn, IsRunningNow, IsAsAsked, IsPlain}
 use Rattle.lf_verdict.specs.inner.Taking.{IsSettled}
 use Rattle.lf_verdict.specs.inner.Workers.{AreWorkers}
 
@@ -38,20 +39,21 @@ pub record IsIdle {G : Type 0} (a : Ahead G) : Type 0 where
   pub none : a.records.records ≡ []
 
 -- Unless it was stopped, it reads ahead only while records are judged, and only where it is not asked what broke first
--- and not for the statistics; once it was, no worker is there.
+-- and not for the statistics. Once it was, no worker is there, and where it can still tell what broke no record waits.
 pub record IsAhead {G : Type 0} (a : Ahead G) : Type 0 where
   pub ahead : a.intake.stop ≡ None → IsRunningNow (session_of a).judging ⊎ (a.records.records ≡ [])
   pub alone : IsSome a.intake.stop → a.at_work ≡ None
   pub workers : IfSome a.at_work AreWorkers
-  pub in_turn : a.intake.stop ≡ None → IsPlain a.intake.asked ⊎ IsIdle a
-  pub as_asked : a.intake.stop ≡ None → IsAsAsked a.intake
+  pub in_turn : CanTell a.intake.asked a.intake.stop → IsPlain a.intake.asked ⊎ IsIdle a
+  pub as_asked : CanTell a.intake.asked a.intake.stop → IsAsAsked a.intake
   pub settled : a.intake.asked.watched ≡ true → IsSettled a.intake
 
--- Records are judged, and it took some bytes.
+-- Records are judged, it took some bytes, and nothing stopped it.
 pub record CanRead {G : Type 0} (a : Ahead G) : Type 0 where
   pub running : IsRunningNow (session_of a).judging
   pub workers : IfSome a.at_work AreWorkers
   pub taken : (bytes : List ℕ) × HasTaken (session_of a) bytes
+  pub going : a.intake.stop ≡ None
 
 -- It took the piece, or the result tells what stops it. Its caller stops it.
 pub record ReadsOn {G : Type 0} (old new : Ahead G) (piece : List ℕ) (result : Result (Unit {0}) Stop) : Type 0 where
@@ -63,4 +65,4 @@ pub record ReadsOn {G : Type 0} (old new : Ahead G) (piece : List ℕ) (result :
   pub taken : OnOk result ((bytes : List ℕ) → HasTaken (session_of old) bytes →
       HasTaken (session_of new) (bytes ++ piece))
   pub stopped : IfErr result (λ stop. (bytes : List ℕ) → HasTaken (session_of old) bytes
-      → HasFedUntil new.intake (bytes ++ piece) (Some stop))
+      → IsStopIn (bytes ++ piece) stop)

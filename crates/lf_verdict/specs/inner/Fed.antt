@@ -18,7 +18,7 @@ use Rattle.lf_verdict.specs.declared.session.intake.Judging.TheVariants.{Waiting
 use Rattle.lf_verdict.specs.declared.session.standing.Standing.{Standing}
 use Rattle.lf_verdict.specs.Legal.{Agrees}
 use Rattle.lf_verdict.specs.Breaking.{first_offset}
-use Rattle.lf_verdict.specs.Session.{IsOfAnotherHeader}
+use Rattle.lf_verdict.specs.Session.{CanTell, IsOfAnotherHeader}
 use Rattle.lf_verdict.specs.Standing.{Counts, IsWatch, IsKnown, StandsAfterAll}
 
 -- The memory is whole and of a header that agrees with the shape, the parts stand where the records lead, and it is
@@ -52,7 +52,7 @@ pub record HasJudged (s : Intake) (bytes : List ℕ) (records : List Record) : T
   pub taken : List (ℕ × Bytes)
   pub kept : IsKept s.judging taken s.memory.items
   pub read : HasRead s.reader bytes taken records
-  pub fine : s.reader.fault ≡ None
+  pub fine : s.stop ≡ None → s.reader.fault ≡ None
   pub judging : IsJudging s.shape s.asked.ordered bytes taken records s.judging
 
 -- ... whichever records they are.
@@ -85,11 +85,17 @@ pub record IsPlain (asked : Asked) : Type 0 where
   pub unwatched : asked.watched ≡ false
   pub uncounted : asked.counted ≡ false
 
--- Nothing stopped the session and it has judged the records that it took, or a fault that stands in the bytes stopped
--- it, or memory ran out.
+-- The fault stands in the bytes, or memory ran out.
+abbrev pub IsStopIn : List ℕ → Stop → Type 0
+IsStopIn bytes (stops.Format fault) = (fault_so_far bytes ≡ Some fault) × AreBytes bytes
+IsStopIn bytes stops.Memory = Unit {0}
+
+-- Nothing stopped the session and it has judged the records that it took; or a fault that stands in the bytes stopped
+-- it, and where it can still tell what broke, it took what stands before that; or memory ran out.
 abbrev pub HasFedUntil : Intake → List ℕ → Option Stop → Type 0
 HasFedUntil s bytes None = HasTaken s bytes
-HasFedUntil s bytes (Some (stops.Format fault)) = (fault_so_far bytes ≡ Some fault) × AreBytes bytes
+HasFedUntil s bytes (Some (stops.Format fault)) = IsStopIn bytes (stops.Format fault) ×
+    (CanTell s.asked (Some (stops.Format fault)) → HasTaken s bytes)
 HasFedUntil s bytes (Some stops.Memory) = Unit {0}
 
 -- The session was fed these bytes.

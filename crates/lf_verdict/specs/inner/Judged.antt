@@ -22,6 +22,7 @@ use Rattle.lf_verdict.specs.Final.{IsFinal, IsEarliest}
 use Rattle.lf_verdict.specs.Incomplete.{IsIncompleteFor}
 use Rattle.lf_verdict.specs.Named.{IsNamed, NoneBrokeSoFar}
 use Rattle.lf_verdict.specs.Outcome.{IsFaultOfLogs, HasOrder, IsOutcomeOf, IsYesOutcome}
+use Rattle.lf_verdict.specs.Session.{CanTell}
 use Rattle.lf_verdict.specs.Statistics.{AreStatisticsOf}
 use Rattle.lf_verdict.specs.Verdict.{IsLeastYes}
 
@@ -80,16 +81,17 @@ pub record IsJudged (shape : Shape) (bytes : List ℕ) (judged : Judged) : Type 
   pub statistics : IfSome judged.statistics (AreStatisticsOf shape bytes)
   pub after_yes : IsSome judged.statistics → IsYesOutcome judged.outcome
 
--- What broke first in the bytes, where that is asked for.
-pub record TellsFirst (asked : Asked) (shape : Shape) (bytes : List ℕ) (found : Option Broken) : Type 0 where
+-- What broke first in the bytes, where that is asked for and this stop lets the session tell it.
+pub record TellsFirst (asked : Asked) (shape : Shape) (bytes : List ℕ) (stop : Option Stop) (found : Option Broken) :
+    Type 0 where
   pub final : IfSome found (IsFinal shape bytes)
   pub earliest : IfSome found (IsEarliest shape bytes)
-  pub none : asked.watched ≡ true → IfNone found (NoneBrokeSoFar shape bytes)
+  pub none : asked.watched ≡ true → CanTell asked stop → IfNone found (NoneBrokeSoFar shape bytes)
 
--- What broke in the bytes, unless this stopped the session. Where that is asked for it is what broke first.
+-- What broke in the bytes, where this stop lets the session tell it. Where that is asked for it is what broke first.
 pub record IsFound (asked : Asked) (shape : Shape) (bytes : List ℕ) (stop : Option Stop) (found : Option Broken) :
     Type 0 where
   pub final : IfSome found (IsFinal shape bytes)
   pub earliest : asked.watched ≡ true → IfSome found (IsEarliest shape bytes)
   pub named : asked.watched ≡ false → IfSome found (IsNamed shape bytes)
-  pub none : stop ≡ None → IfNone found (NoneBrokeSoFar shape bytes)
+  pub none : CanTell asked stop → IfNone found (NoneBrokeSoFar shape bytes)

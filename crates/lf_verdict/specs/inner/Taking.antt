@@ -1,5 +1,5 @@
 -- What an intake takes from its reader.
-use Rattle.std.specs.Prelude.{◌≡◌, ◌<◌, ◌≤◌, Bool, true, ℕ, List, [], ◌++◌, length, take, Some, None, Result, Ok, Err}
+use Rattle.std.specs.Prelude.{◌≡◌, ◌<◌, ◌≤◌, Bool, true, ℕ, List, [], ◌++◌, length, take, Some, Result, Ok, Err}
 use Rattle.lf_rules.specs.declared.shape.Shape.{Shape}
 use Rattle.lf_rules.specs.declared.event.Record.{Record}
 use Rattle.lf_rules.specs.Address.{flat_memory}
@@ -11,6 +11,7 @@ use Rattle.lf_verdict.specs.declared.session.intake.Intake.{Intake}
 use Rattle.lf_verdict.specs.declared.session.intake.Judging.{Judging}
 use Rattle.lf_verdict.specs.declared.session.intake.Judging.TheVariants.{Waiting, Running, Another}
 use Rattle.lf_verdict.specs.declared.session.standing.Standing.{Standing}
+use Rattle.lf_verdict.specs.Session.{CanTell}
 use Rattle.lf_verdict.specs.inner.Fed.{IsRunning}
 use Rattle.lf_verdict.specs.Standing.{Counts, IsWatch, IsKnown, StandsAfterAll}
 
@@ -36,9 +37,9 @@ IsDrained Waiting reader memory = IsLacking reader memory
 IsDrained (Running running) reader memory = reader.records ≡ []
 IsDrained (Another field) reader memory = KeepsNothing reader memory
 
--- Unless it was stopped, what can be judged was taken.
+-- Where it can be told what broke, what can be judged was taken.
 abbrev pub IsSettled : Intake → Type 0
-IsSettled s = s.stop ≡ None → IsDrained s.judging s.reader s.memory.items
+IsSettled s = CanTell s.asked s.stop → IsDrained s.judging s.reader s.memory.items
 
 -- the session that stands so before these records
 abbrev pub running_before : Standing → List Record → Intake → Intake

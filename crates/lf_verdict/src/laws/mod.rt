@@ -1,6 +1,7 @@
 //! The laws about verdicts. Each function only calls the laws from which its own follows.
 
 ghost use Rattle.lf_verdict.specs.Final.{PartFaultsAreFinal, OtherHeadersAreFinal};
+ghost use Rattle.lf_verdict.specs.Final.{OneIsEarliest, EarliestStays, NoneBreaksBehind};
 ghost use Rattle.lf_verdict.specs.Named.{OneIsNamed};
 ghost use Rattle.lf_verdict.specs.Laws.{YesIsLegal, NoHasNoRun, OneOutcome, VerdictsAreOne, VerdictsTellOutcomes};
 ghost use Rattle.lf_verdict.specs.Laws.{WorkersAreAlike, MixturesHaveOneOutcome, MixturesAreAlike};
@@ -10,7 +11,9 @@ mod configured;
 
 pub use collected::collected_logs_are_in_order;
 pub use configured::{mixtures_are_alike_for, verdicts_for_are_one};
-use lf_codec::{exact_reading, faultless_bytes, header_of_bytes, one_trace};
+use lf_codec::{
+    exact_reading, faultless_bytes, faults_stand, header_of_bytes, one_trace, read_so_far,
+};
 use lf_join::joins_are_one;
 use lf_rules::{
     copies_are_flat, gaps_admit_none, interleavings_are_numbered, numbers_are_whole,
@@ -98,3 +101,15 @@ pub fn other_headers_are_final()
 pub fn one_is_named()
     ensures { OneIsNamed }
 {}
+
+/// What is told of what broke first is one for the same bytes, and stays so whatever bytes follow. So it depends on the
+/// bytes alone, and not on the pieces in which they came. Behind a fault of the format nothing breaks.
+pub fn one_is_earliest()
+    ensures one { OneIsEarliest }
+    ensures stays { EarliestStays }
+    ensures behind { NoneBreaksBehind }
+{
+    read_so_far();
+    header_of_bytes();
+    faults_stand();
+}

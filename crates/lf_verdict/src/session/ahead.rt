@@ -7,7 +7,7 @@ ghost use Rattle.lf_codec.specs.declared.fault.Told.TheVariants as tolds;
 ghost use Rattle.lf_verdict.specs.declared.answer.Outcome.{Outcome};
 ghost use Rattle.lf_verdict.specs.Conclusion.{IsConclusion};
 ghost use Rattle.lf_verdict.specs.inner.Judged.{IsFound};
-ghost use Rattle.lf_verdict.specs.Session.{refusal_of, stop_told};
+ghost use Rattle.lf_verdict.specs.Session.{CanTell, refusal_of, stop_told};
 ghost use Rattle.lf_verdict.specs.inner.Fed.{HasTaken, HasFed, IsRunningNow, IsAsAsked, IsPlain};
 ghost use Rattle.lf_verdict.specs.inner.Ahead.{session_of, IsAhead, CanRead, ReadsOn};
 ghost use Rattle.lf_verdict.specs.inner.Workers.{AreWorkers};
@@ -369,7 +369,7 @@ impl<G: Gate + Sync + Send + Copy + 'static> Ahead<G> {
     }
 
     /// What is final for the bytes that were fed, once all of them are judged. Where memory runs out, it stops for
-    /// good. Nothing is told where it was stopped.
+    /// good.
     pub fn broken<R: Threads + Sync>(&mut self, rt: &R) -> Option<Broken>
         requires fed { (bytes : List ℕ) × HasFed (session_of self.old) bytes }
         requires ahead { IsAhead self.old }
@@ -379,17 +379,17 @@ impl<G: Gate + Sync + Send + Copy + 'static> Ahead<G> {
         ensures fed { (bytes : List ℕ) → HasFed (session_of self.old) bytes → HasFed (session_of self.new) bytes }
         ensures failed { IsSome self.old.intake.stop → self.new ≡ self.old }
         ensures memory { self.old.intake.stop ≡ None → IfSome self.new.intake.stop (λ stop. stop ≡ stops.Memory) }
-        ensures stopped { IsSome self.new.intake.stop → result ≡ None }
+        ensures silent { ¬ CanTell self.old.intake.asked self.new.intake.stop → result ≡ None }
         ensures watched { self.old.intake.asked.watched ≡ true → self.new ≡ self.old }
         ensures found { (bytes : List ℕ) → HasFed (session_of self.old) bytes
             → IsFound self.old.intake.asked self.old.intake.shape bytes self.new.intake.stop result }
     {
-        let None = self.intake.stop else {
-            return None;
-        };
         if self.intake.asked.watched {
             return self.intake.broken();
         }
+        let None = self.intake.stop else {
+            return None;
+        };
         match self.named(rt) {
             Ok(found) => found,
             Err(NoMemory) => {

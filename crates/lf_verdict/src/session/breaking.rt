@@ -31,14 +31,14 @@ pub enum Broken {
     /// The trace is one of another hierarchy.
     Header(HeaderField),
     /// A part is at fault. Where `upon` is told, that record is the first of the trace upon which any part broke, and
-    /// the fault is one that broke upon it.
+    /// the fault broke upon it: that of its port, where there is one, and otherwise that of its bank.
     Part {
         fault: PartFault,
         upon: Option<Upon>,
     },
 }
 
-/// The first record of a trace upon which a part broke, and a fault that broke upon it.
+/// The first record of a trace upon which a part broke, and the fault that is named of those that broke upon it.
 #[derive(Clone, Copy)]
 pub struct FirstBreak {
     pub fault: PartFault,

@@ -3,7 +3,7 @@
 ghost use Rattle.std.specs.Prelude.{◌≡◌, ℕ};
 ghost use Rattle.lf_rules.specs.declared.shape.Shape.{Shape};
 ghost use Rattle.lf_verdict.specs.declared.session.asked.Asked.{Asked};
-ghost use Rattle.lf_verdict.specs.Conclusion.{IsConclusion, refused, without_memory, verdict_with, verdict_of};
+ghost use Rattle.lf_verdict.specs.Conclusion.{IsConclusion, refused_after, without_memory, verdict_with, verdict_of};
 ghost use Rattle.lf_verdict.specs.Laws.{IsRunlessNo};
 ghost use Rattle.lf_verdict.specs.Verdict.{IsWorkerCount, IsVerdictOf, IsDecided, IsLegalYes};
 
@@ -44,15 +44,15 @@ fn verdict_with(outcome: Outcome, order: Option<Vec<u8>>) -> Verdict
 }
 
 impl Conclusion {
-    /// Where the bytes are refused.
-    pub(crate) fn refused(fed: Fed, refusal: Refusal) -> Conclusion
-        ensures { result ≡ refused fed refusal }
+    /// Where the bytes are refused, and this broke before.
+    pub(crate) fn refused(fed: Fed, refusal: Refusal, broken: Option<Broken>) -> Conclusion
+        ensures { result ≡ refused_after broken fed refusal }
     {
         Conclusion {
             fed,
             outcome: Outcome::Refused(refusal),
             order: None,
-            broken: None,
+            broken,
             incomplete: None,
             statistics: None,
         }
@@ -62,7 +62,7 @@ impl Conclusion {
     pub fn without_memory(fed: Fed) -> Conclusion
         ensures { result ≡ without_memory fed }
     {
-        Conclusion::refused(fed, Refusal::Memory)
+        Conclusion::refused(fed, Refusal::Memory, None)
     }
 
     /// The verdict. It is for a conclusion whose order was asked for: without one a yes is told as out of memory.

@@ -1,7 +1,7 @@
 //! What a session keeps of the bytes that it was fed.
 
 ghost use Rattle.std.specs.Prelude.{◌≡◌, ◌<◌, ◌++◌, ℕ, List, [], Some, None, IsSome, IfSome, IfNone, IfOk, Ok, OnOk};
-ghost use Rattle.std.specs.Prelude.{◌≤◌, Bool, true, length, take, OnErr};
+ghost use Rattle.std.specs.Prelude.{◌≤◌, ◌↔◌, Bool, true, IsTrue, length, take, OnErr, Err};
 ghost use Rattle.lf_rules.specs.InRange.{IsShape};
 ghost use Rattle.lf_verdict.specs.inner.Judged.{IsJudged, TellsFirst};
 ghost use Rattle.lf_verdict.specs.Conclusion.{IsConclusion};
@@ -9,8 +9,8 @@ ghost use Rattle.lf_verdict.specs.Outcome.{IsYesOutcome};
 ghost use Rattle.lf_verdict.specs.Standing.{Counts, IsKnown};
 ghost use Rattle.lf_verdict.specs.Named.{IsNamed, NoneBrokeSoFar};
 ghost use Rattle.lf_verdict.specs.Final.{IsFinal, IsEarliest};
-ghost use Rattle.lf_verdict.specs.Session.{refusal_of, stop_told};
-ghost use Rattle.lf_verdict.specs.inner.Fed.{IsRunning, HasTaken, IsAsAsked, HasFed};
+ghost use Rattle.lf_verdict.specs.Session.{CanTell, refusal_of, stop_told};
+ghost use Rattle.lf_verdict.specs.inner.Fed.{IsRunning, HasTaken, IsAsAsked, HasFed, HasFedUntil};
 ghost use Rattle.lf_verdict.specs.Session.{IsOfAnotherHeader, HeaderAgrees};
 ghost use Rattle.lf_verdict.specs.inner.Fed.{IsCounting};
 ghost use Rattle.lf_verdict.specs.inner.Taking.{IsLackingIf, IsDrained, IsSettled, CanJudge, RunsOn, Begins};
@@ -151,6 +151,39 @@ impl Intake {
     {
         self.stop = Some(stop);
         Told::Fault(Refusal::from(stop))
+    }
+
+    /// Whether it can be told what broke.
+    fn can_tell(&self) -> bool
+        ensures { IsTrue result ↔ CanTell self.now.asked self.now.stop }
+    {
+        match self.stop {
+            None => true,
+            Some(Stop::Format(_)) => self.asked.watched,
+            Some(Stop::Memory) => false,
+        }
+    }
+
+    /// Stops for good, and tells why. What stands before a fault of the format is judged, where it is asked what broke
+    /// first.
+    fn stop_at(&mut self, stop: Stop) -> Told<Refusal>
+        requires { (bytes : List ℕ) × HasFedUntil (record self.old { stop = Some stop }) bytes (Some stop) }
+        ensures shape { self.new.shape ≡ self.old.shape }
+        ensures asked { self.new.asked ≡ self.old.asked }
+        ensures fed { (bytes : List ℕ) → HasFedUntil (record self.old { stop = Some stop }) bytes (Some stop)
+            → HasFed self.new bytes }
+        ensures told { Err result ≡ stop_told None self.new.stop }
+        ensures as_asked { IsAsAsked self.old → IsAsAsked self.new }
+        ensures settled { IsSettled self.new }
+    {
+        let told = self.stop_with(stop);
+        if !self.can_tell() {
+            return told;
+        }
+        match self.take_all() {
+            Ok(()) => told,
+            Err(NoMemory) => self.stop_with(Stop::Memory),
+        }
     }
 
     /// Takes the memory records that the reader has found.
@@ -304,7 +337,7 @@ impl Intake {
         faults_stand();
         let n = bytes.len().min(self.reader.lacks());
         if let Err(told) = self.reader.feed(&bytes[..n]) {
-            return Err(self.stop_with(Stop::from(told)));
+            return Err(self.stop_at(Stop::from(told)));
         }
         match self.take_all() {
             Ok(()) => Ok(n),
@@ -323,6 +356,7 @@ impl Intake {
         ensures fed { (fed : List ℕ) → HasFed self.old fed → HasFed self.new (fed ++ bytes_taken result bytes.now) }
         ensures told { answer_of result ≡ stop_told self.old.stop self.new.stop }
         ensures as_asked { IsAsAsked self.old → IsAsAsked self.new }
+        ensures settled { OnErr result (IsSettled self.new) }
     {
         if !self.reader.can_lend() {
             return Ok(0);
@@ -361,6 +395,7 @@ impl Intake {
 
     /// What is answered of the bytes that were fed, as those of a whole trace, once what came is judged.
     fn judged(&mut self) -> Judged
+        requires going { self.old.stop ≡ None }
         requires taken { (bytes : List ℕ) × HasTaken self.old bytes }
         requires drained { IsDrained self.old.judging self.old.reader self.old.memory.items }
         ensures judged { (bytes : List ℕ) → HasTaken self.old bytes → IsJudged self.old.shape bytes result }
@@ -378,13 +413,13 @@ impl Intake {
         }
     }
 
-    /// What broke first in the bytes that were fed, once what came is judged and where that is asked for.
+    /// What broke first in the bytes that were fed, where that is asked for and can be told.
     fn first_broken(&self) -> Option<Broken>
-        requires going { self.now.stop ≡ None }
-        requires taken { (bytes : List ℕ) × HasTaken self.now bytes }
-        requires as_asked { IsAsAsked self.now }
-        requires drained { IsDrained self.now.judging self.now.reader self.now.memory.items }
-        ensures { (bytes : List ℕ) → HasTaken self.now bytes → TellsFirst self.now.asked self.now.shape bytes result }
+        requires fed { (bytes : List ℕ) × HasFed self.now bytes }
+        requires as_asked { CanTell self.now.asked self.now.stop → IsAsAsked self.now }
+        requires settled { self.now.asked.watched ≡ true → IsSettled self.now }
+        ensures { (bytes : List ℕ) → HasFed self.now bytes
+            → TellsFirst self.now.asked self.now.shape bytes self.now.stop result }
     {
         if self.asked.watched {
             return self.broken();
@@ -395,7 +430,8 @@ impl Intake {
     /// What is answered of the bytes that were fed.
     pub fn conclude(&mut self, fed: Fed) -> Conclusion
         requires fed { HasFed self.old fed.bytes }
-        requires as_asked { self.old.stop ≡ None → IsAsAsked self.old }
+        requires as_asked { CanTell self.old.asked self.old.stop → IsAsAsked self.old }
+        requires settled { self.old.asked.watched ≡ true → IsSettled self.old }
         ensures fed { result.fed ≡ fed }
         ensures concluded { IsConclusion self.old.asked self.old.shape result }
         ensures stopped { IfSome self.old.stop (λ stop. result.outcome ≡ Outcome.Refused (refusal_of stop)) }
@@ -404,7 +440,8 @@ impl Intake {
         yes_is_legal();
         no_has_no_run();
         if let Some(stop) = self.stop {
-            return Conclusion::refused(fed, Refusal::from(stop));
+            let before = self.first_broken();
+            return Conclusion::refused(fed, Refusal::from(stop), before);
         }
         if let Err(NoMemory) = self.take_all() {
             return Conclusion::without_memory(fed);
@@ -443,15 +480,16 @@ impl Intake {
     pub fn broken(&self) -> Option<Broken>
         requires { (bytes : List ℕ) × HasFed self.now bytes }
         ensures stands { (bytes : List ℕ) → HasFed self.now bytes → IfSome result (IsFinal self.now.shape bytes) }
-        ensures earliest { IsAsAsked self.now → self.now.asked.watched ≡ true → (bytes : List ℕ) → HasFed self.now bytes
-            → IfSome result (IsEarliest self.now.shape bytes) }
-        ensures none { IsSettled self.now → self.now.stop ≡ None → (bytes : List ℕ) → HasFed self.now bytes
-            → IfNone result (NoneBrokeSoFar self.now.shape bytes) }
+        ensures earliest { (CanTell self.now.asked self.now.stop → IsAsAsked self.now) → self.now.asked.watched ≡ true
+            → (bytes : List ℕ) → HasFed self.now bytes → IfSome result (IsEarliest self.now.shape bytes) }
+        ensures none { IsSettled self.now → CanTell self.now.asked self.now.stop → (bytes : List ℕ)
+            → HasFed self.now bytes → IfNone result (NoneBrokeSoFar self.now.shape bytes) }
+        ensures silent { ¬ CanTell self.now.asked self.now.stop → result ≡ None }
     {
         read_so_far();
         part_faults_are_final();
         other_headers_are_final();
-        if self.stop.is_some() {
+        if !self.can_tell() {
             return None;
         }
         match &self.judging {

@@ -13,7 +13,7 @@ ghost use Rattle.lf_verdict.specs.Laws.{IsRunlessNo};
 ghost use Rattle.lf_verdict.specs.Conclusion.{IsConclusion};
 ghost use Rattle.lf_verdict.specs.Final.{IsFinal, IsEarliest};
 ghost use Rattle.lf_verdict.specs.Named.{NoneBrokeSoFar};
-ghost use Rattle.lf_verdict.specs.Session.{IsConfigRefusal, refusal_of, stop_told, IsRefusalSoFar};
+ghost use Rattle.lf_verdict.specs.Session.{CanTell, IsConfigRefusal, refusal_of, stop_told, IsRefusalSoFar};
 
 mod ahead;
 mod asked;
@@ -129,17 +129,22 @@ impl Session {
     /// What broke, where something did for which no bytes that follow lead to a yes: a header of another hierarchy, or
     /// a part of the records so far. Where it was asked what broke first, the part is told with the first record upon
     /// which one was at fault. The outcome is then that fault, one that is named before it, or that the bytes are no
-    /// trace. The header is told as soon as it is there. After a refused `feed` nothing is told.
+    /// trace. The header is told as soon as it is there. After a refused `feed` it still tells what stands before a
+    /// fault of the format where it was asked what broke first, and otherwise nothing. So what is told depends on the
+    /// bytes alone (`one_is_earliest`), and not on the pieces in which they came.
     pub fn broken(&self) -> Option<Broken>
         ensures stands { IfSome result (IsFinal self.now.shape self.now.fed) }
         ensures earliest { self.now.asked.watched ≡ true → IfSome result (IsEarliest self.now.shape self.now.fed) }
-        ensures none { self.now.stop ≡ None → IfNone result (NoneBrokeSoFar self.now.shape self.now.fed) }
+        ensures none { CanTell self.now.asked self.now.stop
+            → IfNone result (NoneBrokeSoFar self.now.shape self.now.fed) }
+        ensures silent { ¬ CanTell self.now.asked self.now.stop → result ≡ None }
     {
         self.intake.broken()
     }
 
     /// What is answered of the bytes that were fed: the outcome, and what was asked for. After a refused `feed` the
-    /// outcome is that refusal, and where memory ran out it is that. Nothing else is told then.
+    /// outcome is that refusal, and where memory ran out it is that. Nothing else is told then, but what broke before a
+    /// fault of the format, where that was asked for.
     pub fn conclude(self) -> Conclusion
         ensures fed { result.fed.bytes ≡ self.fed }
         ensures concluded { IsConclusion self.asked self.shape result }

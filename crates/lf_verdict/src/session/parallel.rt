@@ -8,7 +8,7 @@ ghost use Rattle.lf_verdict.specs.declared.answer.Outcome.{Outcome};
 ghost use Rattle.lf_verdict.specs.Conclusion.{IsConclusion};
 ghost use Rattle.lf_verdict.specs.Final.{IsFinal, IsEarliest};
 ghost use Rattle.lf_verdict.specs.Named.{IsNamed, NoneBrokeSoFar};
-ghost use Rattle.lf_verdict.specs.Session.{refusal_of, stop_told, IsRefusalSoFar};
+ghost use Rattle.lf_verdict.specs.Session.{CanTell, refusal_of, stop_told, IsRefusalSoFar};
 ghost use Rattle.lf_verdict.specs.declared.stop.Stop.TheVariants as stops;
 
 use crate::answer::Refusal;
@@ -119,8 +119,9 @@ impl<G: Gate + Sync + Send + Copy + 'static> ParallelSession<G> {
     /// waits for the threads at work, and judges what waits. Where it was not asked what broke first, a part is told
     /// without a record, and of several that are at fault the lowest port, or otherwise the lowest bank: so what is
     /// told depends on the bytes that were fed alone (`one_is_named`), and not on the pieces in which they came or on
-    /// the records that were judged together. Where memory runs out, the session stops as after a refused `feed`. Once
-    /// it is stopped nothing is told.
+    /// the records that were judged together. Where memory runs out, the session stops as after a refused `feed`. After
+    /// a refused `feed` it still tells what stands before a fault of the format where it was asked what broke first,
+    /// and otherwise nothing.
     pub fn broken<R: Threads + Sync>(&mut self, rt: &R) -> Option<Broken>
         ensures shape { self.new.shape ≡ self.old.shape }
         ensures asked { self.new.asked ≡ self.old.asked }
@@ -129,11 +130,12 @@ impl<G: Gate + Sync + Send + Copy + 'static> ParallelSession<G> {
         ensures memory { self.old.stop ≡ None → IfSome self.new.stop (λ stop. stop ≡ stops.Memory) }
         ensures watched { self.old.asked.watched ≡ true → self.new.stop ≡ self.old.stop }
         // What is told.
-        ensures stopped { IsSome self.new.stop → result ≡ None }
+        ensures silent { ¬ CanTell self.old.asked self.new.stop → result ≡ None }
         ensures stands { IfSome result (IsFinal self.old.shape self.old.fed) }
         ensures earliest { self.old.asked.watched ≡ true → IfSome result (IsEarliest self.old.shape self.old.fed) }
         ensures named { self.old.asked.watched ≡ false → IfSome result (IsNamed self.old.shape self.old.fed) }
-        ensures none { self.new.stop ≡ None → IfNone result (NoneBrokeSoFar self.old.shape self.old.fed) }
+        ensures none { CanTell self.old.asked self.new.stop
+            → IfNone result (NoneBrokeSoFar self.old.shape self.old.fed) }
     {
         self.ahead.broken(rt)
     }

@@ -8,4 +8,4 @@ mod watch;
 pub use check::Check;
 pub use complete::Complete;
 pub use statistics::Statistics;
-pub use watch::{Watch, watched};
+pub use watch::Watch;

@@ -1,17 +1,17 @@
 //! What broke for good, as soon as something did.
 
 ghost use Rattle.std.specs.Prelude.{◌≡◌, IfOk, string_bytes};
-ghost use Rattle.run_engine.specs.Asks.{broken_line, watched};
+ghost use Rattle.run_engine.specs.Asks.{broken_line};
 
 use crate::ask::{Ask, Needs};
 use crate::line::{no_memory_line, not_read_line, outcome_line};
-use lf_codec::CodecCause;
 use lf_rules::{NoMemory, Shape};
-use lf_verdict::{Asked, Broken, Conclusion, Outcome, Refusal};
+use lf_verdict::{Asked, Broken, Conclusion};
 use std::alloc::Global;
 
 /// What broke for good, with the first record upon which a part did. No more is read then. Otherwise the line of the
-/// verdict is written. What stands in the bytes of a read is told before the next read.
+/// verdict is written. What stands in the bytes of a read is told before the next read, and what is told depends on the
+/// bytes of the trace alone (`watches_are_one`).
 #[derive(Clone, Copy)]
 pub struct Watch;
 
@@ -20,19 +20,6 @@ fn broken_line(alloc: Global, found: &Broken) -> Result<String, NoMemory>
     ensures { IfOk result (λ text. string_bytes text ≡ broken_line found.now) }
 {
     Ok(format!(in alloc; "broken {found}\n")?)
-}
-
-/// What is told to have broken: nothing where a fault of the format stands, whatever bytes follow.
-pub fn watched(outcome: &Outcome, found: Option<Broken>) -> Option<Broken>
-    ensures { result ≡ watched outcome.now found }
-{
-    match outcome {
-        Outcome::Refused(Refusal::Format(fault)) => match fault.cause {
-            CodecCause::Truncated => found,
-            _ => None,
-        },
-        _ => found,
-    }
 }
 
 impl Ask for Watch {
@@ -65,7 +52,7 @@ impl Ask for Watch {
         _bytes: &[u8],
         conclusion: &Conclusion,
     ) -> Result<String, NoMemory> {
-        match watched(&conclusion.outcome, conclusion.broken) {
+        match conclusion.broken {
             Some(found) => broken_line(alloc, &found),
             None => outcome_line(alloc, &conclusion.outcome),
         }

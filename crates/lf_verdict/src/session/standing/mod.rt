@@ -7,7 +7,7 @@ ghost use Rattle.lf_rules.specs.Address.{FlatMemory};
 ghost use Rattle.lf_rules.specs.Run.{of_log};
 ghost use Rattle.lf_codec.specs.Layout.{record_bytes};
 ghost use Rattle.lf_codec.specs.Lent.{IsSpelling};
-ghost use Rattle.lf_verdict.specs.Breaking.{IsFaultOfPart, NoneBroke, offset_after};
+ghost use Rattle.lf_verdict.specs.Breaking.{IsFaultOfPart, IsNamedFault, NoneBroke, offset_after};
 ghost use Rattle.lf_verdict.specs.inner.Noting.{IsBankWhole, IsFirstOfBank, EndsInRange};
 ghost use Rattle.lf_verdict.specs.Standing.{Counts, IsWatch, IsKnown, StandsAfterAll};
 ghost use Rattle.lf_verdict.specs.inner.Coming.{MayCome, CanStand};
@@ -109,11 +109,11 @@ impl Standing {
         }
     }
 
-    /// What broke upon the record, which came last: its port, or its bank.
+    /// What broke upon the record, which came last: its port, or otherwise its bank.
     fn broke_upon(&self, item: &RecordView<'_>) -> Option<PartFault>
-        ensures some { (shape : Shape) (memory : FlatMemory) (records : List Record) →
-            StandsAfterAll shape memory records self.now
-            → IfSome result (IsFaultOfPart shape memory records) }
+        ensures named { (shape : Shape) (memory : FlatMemory) (before : List Record) → NoneBroke shape memory before
+            → StandsAfterAll shape memory (before ++ item.now ∷ []) self.now
+            → IfSome result (IsNamedFault shape memory (before ++ item.now ∷ [])) }
         ensures none { (shape : Shape) (memory : FlatMemory) (before : List Record) → NoneBroke shape memory before
             → StandsAfterAll shape memory (before ++ item.now ∷ []) self.now
             → IfNone result (NoneBroke shape memory (before ++ item.now ∷ [])) }

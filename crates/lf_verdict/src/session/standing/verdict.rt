@@ -12,8 +12,7 @@ ghost use Rattle.lf_verdict.specs.inner.Ending.{IsEnding, AreWholeBelow};
 ghost use Rattle.lf_verdict.specs.inner.Judged.{IsLogsJudged};
 ghost use Rattle.lf_verdict.specs.inner.Coming.{logs_so_far, IsShort, CanEnd};
 ghost use Rattle.lf_verdict.specs.Standing.{Counts, StandsAfterAll, IsWatch, IsKnown};
-ghost use Rattle.lf_verdict.specs.Breaking.{IsFaultOfPart, NoneBroke};
-ghost use Rattle.lf_verdict.specs.Named.{IsNamedFault};
+ghost use Rattle.lf_verdict.specs.Breaking.{IsFaultOfPart, IsNamedFault, NoneBroke};
 ghost use Rattle.lf_verdict.specs.inner.Noting.{IsPortWhole, IsBankWhole, IsOfLowestBank, IsPartBroken, NamesRecord};
 
 use crate::answer::{Fault, Outcome};

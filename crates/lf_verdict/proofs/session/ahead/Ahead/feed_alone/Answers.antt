@@ -21,4 +21,4 @@ returns-in-Ok-clause-ahead g c =
 
 pub returns-in-Err-clause-ahead : goal.returns-in-Err-clause-ahead
 returns-in-Err-clause-ahead g c =
-    stopped_ahead c.stop_with.new.self stops.Memory c.stop_with.ensures.stopped c.stop_with.ensures.alone
+    stopped_ahead c.stop_with.new.self stops.Memory c.stop_with.ensures.stopped c.stop_with.ensures.alone (λ can. can)

@@ -20,9 +20,9 @@ returns-in_err-pack g c =
       workers = c.requires.can.workers;
       taken = search rules;
       stopped = if_err_from c.from_residual.result (λ stop is bytes taken.
-          packed_stop (record s { reader = c.pack.new.self }) s.reader.fault
+          packed_stop s.reader.fault
           (with_records c.pack.new.records.records c.pack.new.self) (bytes ++ c.args.piece.now)
-          taken.1.taken (taken.0 ++ lent) told stop taken.1.fine (sym c.in_err-pack.ensures.told)
+          taken.1.taken (taken.0 ++ lent) told stop (taken.1.fine c.requires.can.going) (sym c.in_err-pack.ensures.told)
           (c.in_err-pack.ensures.pieces bytes taken.1.taken (taken.0 ++ lent)
           (taken_too s.reader bytes taken.1.taken taken.0 lent a.records.records taken.1.read)) is)
           c.from_residual.ensures.1;

@@ -20,7 +20,8 @@ use Rattle.lf_verdict.proofs.session.intake.Intake.judged.Goals as goal
 pub returns-in-Err-clause-judged : goal.returns-in-Err-clause-judged
 returns-in-Err-clause-judged c bytes m =
     let s = c.args.self.now in
-    let fine : fault_so_far bytes ≡ None = ap (λ (q : Reading). q.fault) m.1.read.same ∙ m.1.fine in
+    let fine : fault_so_far bytes ≡ None = ap (λ (q : Reading). q.fault) m.1.read.same
+    ∙ m.1.fine c.requires.going in
     subst (IsJudged s.shape bytes) (sym c.of.ensures)
     (refusal_judged s.shape bytes c.from-in-Err.result
     (subst (λ (r : Refusal). IsOutcomeOrWant s.shape bytes (Refused r)) (sym c.from-in-Err.ensures)

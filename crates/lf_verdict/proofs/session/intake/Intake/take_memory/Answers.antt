@@ -25,7 +25,7 @@ loop-item-preserved c = record {
           kept = kept_waiting s.judging c.push.new.self.items c.push.new.self.items waits refl;
           read = subst (λ (items : List (ℕ × Bytes)). HasRead c.take_memory.new.self bytes items m.0)
               (sym c.in_ok-push.ensures.items) (c.in-Some.ensures.taken bytes s.memory.items m.0 read);
-          fine = ap (λ (q : Reading). q.fault) c.in-Some.ensures.rest ∙ m.1.fine;
+          fine = λ on. ap (λ (q : Reading). q.fault) c.in-Some.ensures.rest ∙ m.1.fine on;
           judging = waiting_any s.shape s.asked.ordered bytes m.1.taken c.push.new.self.items m.0 s.judging waits
               m.1.judging;
         },
@@ -42,7 +42,7 @@ returns-clause-taken c bytes taken =
         kept = m.1.kept;
         read = subst (λ (items : List (ℕ × Bytes)). HasRead c.take_memory.new.self bytes items m.0)
             (append-nil m.1.taken) (c.in_default.ensures.taken bytes m.1.taken m.0 m.1.read);
-        fine = ap (λ (q : Reading). q.fault) c.in_default.ensures.rest ∙ m.1.fine;
+        fine = λ on. ap (λ (q : Reading). q.fault) c.in_default.ensures.rest ∙ m.1.fine on;
         judging = m.1.judging;
       },
     )
