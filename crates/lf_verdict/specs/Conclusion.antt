@@ -1,7 +1,7 @@
 -- What a session answers when it ends.
 use Rattle.std.specs.Prelude.{◌≡◌, ℕ, List, length, true, Option, Some, None, IsSome, IfSome, IfNone}
 use Rattle.std.specs.Global.{Vec}
-use Rattle.trace_fed.specs.declared.fed.Fed.{Fed}
+use Rattle.lf_verdict.specs.declared.fed.Fed.{Fed}
 use Rattle.lf_rules.specs.declared.shape.Shape.{Shape}
 use Rattle.lf_verdict.specs.declared.answer.Outcome.{Outcome}
 use Rattle.lf_verdict.specs.declared.answer.Outcome.TheVariants.{Yes, No, Refused}

@@ -10,6 +10,7 @@
 mod answer;
 mod broken_part;
 mod early_end;
+mod fed;
 mod header;
 mod laws;
 mod order;
@@ -19,6 +20,7 @@ mod stop;
 mod text;
 
 pub use answer::{Fault, HeaderField, Outcome, Refusal, Verdict};
+pub use fed::Fed;
 pub use laws::{
     collected_logs_are_in_order, mixtures_are_alike, mixtures_are_alike_for, no_has_no_run,
     one_is_earliest, one_is_named, other_headers_are_final, part_faults_are_final,

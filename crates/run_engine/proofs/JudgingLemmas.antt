@@ -1,7 +1,7 @@
 -- What a run comes to by what it read.
 use Rattle.std.proofs.Common.{◌≡◌, ℕ, ◌<◌, ◌≤◌, List, true, None, Ok, refl, sym, ◌∙◌, subst, inl, inr}
 use Rattle.std.specs.Prelude.{IsSome}
-use Rattle.trace_fed.specs.declared.fed.Fed.{Fed}
+use Rattle.lf_verdict.specs.declared.fed.Fed.{Fed}
 use Rattle.lf_rules.specs.declared.shape.Shape.{Shape}
 use Rattle.lf_stats.specs.declared.counts.Stats.{Stats}
 use Rattle.lf_codec.specs.Laws.{AreBytes, ReadingIsExact, FaultsSoFarAreNotTruncated, FaultsStand}

@@ -3,7 +3,7 @@ use Rattle.std.proofs.Common.{◌≡◌, ◌≢◌, ℕ, ◌<◌, ◌≤◌, Lis
 use Rattle.std.proofs.Common.{Err, IfOk, IfSome, sym, ap, ◌∙◌, subst, refl, inl, inr, arith}
 use Rattle.std.specs.Prelude.{IsSome, IsErrOf, IfErr, take}
 use Rattle.std.specs.Global.{Vec}
-use Rattle.trace_fed.specs.declared.fed.Fed.{Fed}
+use Rattle.lf_verdict.specs.declared.fed.Fed.{Fed}
 use Rattle.lf_rules.specs.declared.shape.Shape.{Shape}
 use Rattle.lf_config.specs.declared.fault.ConfigFault.{ConfigFault}
 use Rattle.lf_config.specs.declared.fault.ConfigFault.TheVariants as told

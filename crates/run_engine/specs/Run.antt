@@ -1,7 +1,7 @@
 -- What a run reads, answers and writes, whatever is asked.
 use Rattle.std.specs.Prelude.{◌≡◌, ◌≢◌, ◌⊎◌, ◌↔◌, ℕ, ◌≤◌, ◌<◌, List, take, true, false, Option, Some, None}
 use Rattle.std.specs.Prelude.{Result, Ok, Err, IfOk, IfErr, IfSome, IsErrOf}
-use Rattle.trace_fed.specs.declared.fed.Fed.{Fed}
+use Rattle.lf_verdict.specs.declared.fed.Fed.{Fed}
 use Rattle.lf_rules.specs.declared.shape.Shape.{Shape}
 use Rattle.lf_codec.specs.Laws.{AreBytes}
 use Rattle.lf_config.specs.Configuration.{configuration_of}

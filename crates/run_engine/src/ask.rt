@@ -1,7 +1,7 @@
 //! What can be asked of a trace.
 
 ghost use Rattle.std.specs.Prelude.{◌≡◌, ℕ, List, Option, Some, None, true, IfOk, string_bytes};
-ghost use Rattle.trace_fed.specs.declared.fed.Fed.{Fed};
+ghost use Rattle.lf_verdict.specs.declared.fed.Fed.{Fed};
 ghost use Rattle.lf_rules.specs.declared.shape.Shape.{Shape};
 ghost use Rattle.lf_rules.specs.InRange.{IsShape};
 ghost use Rattle.lf_verdict.specs.declared.session.conclusion.Conclusion.{Conclusion};

@@ -16,11 +16,10 @@ use crate::ask::Needs;
 use crate::fault::RunFault;
 use lf_codec::{Told, exact_reading, fault_so_far, faults_stand};
 use lf_rules::{NoMemory, Shape};
-use lf_verdict::{Conclusion, ParallelSession, Refusal};
+use lf_verdict::{Conclusion, Fed, ParallelSession, Refusal};
 use run_stream::{Source, Stop, zeros};
 use std::io::ErrorKind;
 use std::thread::Threads;
-use trace_fed::Fed;
 
 /// The most bytes that one read asks for.
 const PIECE: usize = 65536;

@@ -1,7 +1,7 @@
 //! Writes what a run came to.
 
 ghost use Rattle.std.specs.Prelude.{◌≡◌, ◌≢◌, Ok, Err, Some, None, IfOk, true};
-ghost use Rattle.trace_fed.specs.declared.fed.Fed.{Fed};
+ghost use Rattle.lf_verdict.specs.declared.fed.Fed.{Fed};
 ghost use Rattle.lf_rules.specs.InRange.{IsShape};
 ghost use Rattle.lf_verdict.specs.Conclusion.{IsConclusion, refused};
 ghost use Rattle.lf_verdict.specs.Outcome.{IsDecidedOutcome};
@@ -13,11 +13,10 @@ use crate::ask::Ask;
 use crate::fault::RunFault;
 use crate::judging::Judged;
 use lf_rules::Shape;
-use lf_verdict::{Conclusion, Outcome, Refusal};
+use lf_verdict::{Conclusion, Fed, Outcome, Refusal};
 use run_stream::{Counted, put};
 use std::alloc::Global;
 use std::io::Write;
-use trace_fed::Fed;
 
 /// Writes the text that is due for what a run came to.
 pub fn tell<A: Ask, W: Write>(

@@ -17,6 +17,7 @@ ghost use Rattle.lf_verdict.specs.declared.stop.Stop.TheVariants as stops;
 ghost use Rattle.lf_verdict.specs.inner.Taking.{running_before, IsSettled};
 
 use crate::answer::Refusal;
+use crate::fed::Fed;
 use crate::session::asked::Asked;
 use crate::session::breaking::Broken;
 use crate::session::conclusion::Conclusion;
@@ -31,7 +32,6 @@ use lf_rules::{NoMemory, Shape};
 use std::alloc::Global;
 use std::mem;
 use std::thread::Threads;
-use trace_fed::Fed;
 
 /// So many batches are read ahead at most before the reader waits for the workers.
 const MOST_BATCHES: usize = 4;

@@ -8,10 +8,10 @@ ghost use Rattle.lf_verdict.specs.Laws.{IsRunlessNo};
 ghost use Rattle.lf_verdict.specs.Verdict.{IsWorkerCount, IsVerdictOf, IsDecided, IsLegalYes};
 
 use crate::answer::{Outcome, Refusal, Verdict};
+use crate::fed::Fed;
 use crate::session::breaking::Broken;
 use lf_logs::Incomplete;
 use lf_stats::Stats;
-use trace_fed::Fed;
 
 /// What a session answers when it ends.
 #[derive(Drop)]

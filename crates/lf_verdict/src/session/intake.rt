@@ -24,6 +24,7 @@ ghost use Rattle.lf_codec.specs.Reader.{HasRead};
 ghost use Rattle.lf_codec.specs.declared.fault.Told.TheVariants as tolds;
 
 use crate::answer::{HeaderField, Outcome, Refusal};
+use crate::fed::Fed;
 use crate::header::{differing, first_offset};
 use crate::laws::{no_has_no_run, other_headers_are_final, part_faults_are_final, yes_is_legal};
 use crate::session::asked::Asked;
@@ -34,7 +35,6 @@ use crate::stop::Stop;
 use lf_codec::{Reader, Told, exact_reading, faults_stand, header_of_bytes, read_so_far};
 use lf_rules::{Memory, NoMemory, Shape};
 use std::alloc::Global;
-use trace_fed::Fed;
 use trace_views::RecordView;
 
 /// How far the judging is.

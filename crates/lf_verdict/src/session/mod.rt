@@ -28,6 +28,7 @@ mod worker;
 mod workers;
 
 use crate::answer::{Refusal, Verdict};
+use crate::fed::Fed;
 use crate::session::intake::Intake;
 pub use asked::Asked;
 pub use breaking::{Broken, PartFault, Upon};
@@ -38,7 +39,6 @@ use lf_rules::Shape;
 pub use parallel::ParallelSession;
 use std::alloc::Global;
 use std::marker::Model;
-use trace_fed::Fed;
 
 /// Judges a trace while its bytes come, by one worker, and keeps no whole trace.
 #[derive(Drop)]

@@ -12,6 +12,7 @@ ghost use Rattle.lf_verdict.specs.Session.{CanTell, refusal_of, stop_told, IsRef
 ghost use Rattle.lf_verdict.specs.declared.stop.Stop.TheVariants as stops;
 
 use crate::answer::Refusal;
+use crate::fed::Fed;
 use crate::session::ahead::Ahead;
 use crate::session::asked::Asked;
 use crate::session::breaking::Broken;
@@ -22,7 +23,6 @@ use lf_rules::Shape;
 use std::alloc::Global;
 use std::marker::Model;
 use std::thread::Threads;
-use trace_fed::Fed;
 
 /// So many records are judged at a time. Fewer are not worth the threads that are made for them, and more
 /// fill the caches of the processors.

@@ -1,5 +1,5 @@
 use Rattle.std.proofs.Common.{ap, ◌∙◌, subst}
-use Rattle.trace_fed.specs.declared.fed.Fed.{Fed}
+use Rattle.lf_verdict.specs.declared.fed.Fed.{Fed}
 use Rattle.lf_verdict.specs.Seen.{Seen}
 use Rattle.lf_verdict.specs.Conclusion.{IsConclusion}
 use Rattle.lf_verdict.proofs.session.Session.conclude.Goals as goal

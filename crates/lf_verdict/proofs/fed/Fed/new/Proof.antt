@@ -10,11 +10,11 @@ use types.ByLocal.{alloc_all, pass_all, free_all, look_at, sets}
 use denote.Shadow.{makes_shadow}
 use denote.Steps.{nothing}
 use denote.Triple.Walked.{Stays, says, ends_at}
-use Rattle.trace_fed.specs.contracts.fed.Fed.new as f
-use Rattle.trace_fed.specs.contracts.fed.Fed.{the_row as R}
-use Rattle.trace_fed.specs.declared.fed.Fed.{Fed}
-use Rattle.trace_fed.proofs.fed.Fed.new.Statement.{statement}
-use Rattle.trace_fed.proofs.fed.Fed.new.Code as code
+use Rattle.lf_verdict.specs.contracts.fed.Fed.new as f
+use Rattle.lf_verdict.specs.contracts.fed.Fed.{the_row as R}
+use Rattle.lf_verdict.specs.declared.fed.Fed.{Fed}
+use Rattle.lf_verdict.proofs.fed.Fed.new.Statement.{statement}
+use Rattle.lf_verdict.proofs.fed.Fed.new.Code as code
 
 abbrev stayed : Stays f.ended.signature.params f.ended.kept
 stayed = tt

@@ -17,11 +17,11 @@ use denote.Signature.{plain}
 use denote.Slice.{ShrSlice, shr_slice_vals, shr_slice_Tells}
 use denote.Steps.{opens, closes}
 use denote.Triple.Walked.{Stays, says, stay_ref, stay_none_slice, Goes-ref, Goes-none_slice, ends_at}
-use Rattle.trace_fed.specs.contracts.fed.Fed.add as f
-use Rattle.trace_fed.specs.contracts.fed.Fed.{the_row as R}
-use Rattle.trace_fed.specs.declared.fed.Fed.{Fed}
-use Rattle.trace_fed.proofs.fed.Fed.add.Statement.{statement}
-use Rattle.trace_fed.proofs.fed.Fed.add.Code as code
+use Rattle.lf_verdict.specs.contracts.fed.Fed.add as f
+use Rattle.lf_verdict.specs.contracts.fed.Fed.{the_row as R}
+use Rattle.lf_verdict.specs.declared.fed.Fed.{Fed}
+use Rattle.lf_verdict.proofs.fed.Fed.add.Statement.{statement}
+use Rattle.lf_verdict.proofs.fed.Fed.add.Code as code
 
 abbrev stayed : Stays f.ended.signature.params f.ended.kept
 stayed = (stay_ref (0 ∷ []) tt (plain (λ _. R)), (stay_none_slice (1 ∷ []) tt (plain (λ _. u8)) yes, tt))
