@@ -1,5 +1,4 @@
 pub mod Found
-pub mod Ordered
 pub mod Pieces
 pub mod Places
 pub mod Telling

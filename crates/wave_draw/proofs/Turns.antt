@@ -12,9 +12,9 @@ use Rattle.explain_lines.specs.declared.times.Times.{Times}
 use Rattle.wave_signals.specs.Wave.{Drawn, next, next_shown, drawn_after, wave_from}
 use Rattle.wave_draw.specs.declared.queues.Queues.{Queues}
 use Rattle.wave_draw.specs.declared.order.Order.{Order}
-use Rattle.wave_draw.specs.Ordered.{without_next, in_order, left_by, Names}
+use Rattle.wave_order.specs.Ordered.{without_next, in_order, left_by, Names}
 use Rattle.wave_draw.specs.Turns.{queued, rest_of, HasCome, TakesDue, DrawsDue, DrawsMore}
-use Rattle.wave_draw.proofs.Ordered.{in_order-append, left_by-append, stops, stays, begins, leaves, without_none}
+use Rattle.wave_order.proofs.Ordered.{in_order-append, left_by-append, stops, stays, begins, leaves, without_none}
 use Rattle.wave_draw.proofs.Waiting.{none_waits, all_empty}
 
 -- ---- at the end

@@ -8,7 +8,7 @@ use Rattle.explain_lines.specs.declared.times.Times.{Times}
 use Rattle.wave_signals.specs.Wave.{Drawn, drawn_after, wave_from}
 use Rattle.wave_draw.specs.declared.order.Order.{Order}
 use Rattle.wave_draw.specs.declared.queues.Queues.{Queues}
-use Rattle.wave_draw.specs.Ordered.{in_order, left_by, drawn_of}
+use Rattle.wave_order.specs.Ordered.{in_order, left_by, drawn_of}
 
 -- the records that wait, log by log
 abbrev pub queued : Queues → List (List Record)

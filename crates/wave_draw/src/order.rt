@@ -4,7 +4,7 @@ ghost use Rattle.std.specs.Prelude.{◌≡◌, ◌<◌, ◌+◌, ◌++◌, ◌�
 ghost use Rattle.std.specs.Prelude.{Some, OnOk, OnSome, IsTrue};
 ghost use Rattle.lf_rules.specs.declared.event.Record.{Record};
 ghost use Rattle.lf_rules.specs.Run.{Interleaves};
-ghost use Rattle.wave_draw.specs.Ordered.{Names};
+ghost use Rattle.wave_order.specs.Ordered.{Names};
 ghost use Rattle.wave_draw.specs.Turns.{queued, HasCome, TakesDue, DrawsDue, DrawsMore};
 
 use crate::queues::Queues;

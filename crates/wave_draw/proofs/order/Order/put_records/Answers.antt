@@ -1,7 +1,7 @@
 use Rattle.std.proofs.Common.{◌++◌, ap}
 use Rattle.std.proofs.lemmas.Result.{on_ok_weaker}
 use Rattle.wave_draw.specs.declared.order.Order.{Order}
-use Rattle.wave_draw.specs.Ordered.{left_by}
+use Rattle.wave_order.specs.Ordered.{left_by}
 use Rattle.wave_draw.proofs.Turns.{draws_more}
 use Rattle.wave_draw.proofs.order.Order.put_records.Goals as goal
 
