@@ -1,6 +1,5 @@
-pub mod Found
 pub mod Pieces
-pub mod Places
+pub mod Splitting
 pub mod Telling
 pub mod Turns
 pub mod Viewed

@@ -3,7 +3,7 @@ use Rattle.std.proofs.Common.{◌≡◌, ℕ, zero, suc, ◌+◌, ◌<◌, true,
 use Rattle.std.proofs.Common.{filter, map, drop, set, get_or, slice_index, slice_set, replicate, refl, sym, ap, ◌∙◌, subst}
 use Rattle.std.proofs.Common.{eqb-true, inl, inr, arith, Bool, if◌then◌else◌, add-zero}
 use Rattle.std.proofs.lemmas.Bool.{cases_Bool, cond-true, cond-false, eqb-false}
-use Rattle.std.proofs.lemmas.List.{get_or-set_same, get_or-set_other, length-append, length-set}
+use Rattle.std.proofs.lemmas.List.{get_or-set_same, get_or-set_other, append-nil, append_assoc, length-append, length-set}
 use Rattle.std.proofs.lemmas.List.Elements.{filter-append}
 use Rattle.lf_rules.specs.declared.event.Record.{Record}
 use Rattle.lf_rules.specs.Address.{no_bank}
@@ -14,7 +14,7 @@ use Rattle.wave_order.specs.declared.left.Left.{Left}
 use Rattle.wave_order.specs.declared.sought.Entry.{Entry}
 use Rattle.wave_order.specs.declared.sought.Sought.{Sought}
 use Rattle.wave_order.specs.Left.{queued, begins_due, HasLeft, ComesLowest}
-use Rattle.wave_order.specs.OrderTo.{entry_of, is_due, counts_entry, is_counted, is_entry_sought, NoneMayCome, IsOrderTo}
+use Rattle.wave_order.specs.OrderTo.{entry_of, is_due, counts_entry, is_counted, is_entry_sought, NoneMayCome, NamesLowest, IsOrderTo}
 use Rattle.wave_order.specs.Ordered.{without_next, in_order, left_by}
 use Rattle.wave_order.proofs.Ordered.{either, stops, begins, leaves}
 use Rattle.wave_order.proofs.Coming.{Counts, begins_alike, some_begins, of_it, of_another, due_number, keeps_more}
@@ -159,12 +159,46 @@ taken_more (first ∷ order) records log r rest places some =
           )
     ]
 
+-- No lower log's next record may come.
+abbrev pub NoneLower : List Record → List Record → ℕ → Type 0
+NoneLower gone others log = (lower : ℕ) (r : Record) (rest : List Record) → lower < log →
+    of_log lower others ≡ r ∷ rest → is_due gone r ≡ false
+
+pub names_more : (order : List ℕ) (gone others : List Record) (log : ℕ) →
+    length (in_order order others) ≡ length order → NamesLowest gone others order →
+    NoneLower (gone ++ in_order order others) (left_by order others) log → NamesLowest gone others (order ++ log ∷ [])
+names_more [] gone others log places names none =
+    (subst (λ (rs : List Record). NoneLower rs others log) (append-nil gone) none, tt)
+names_more (first ∷ order) gone others log places names none =
+    elim (either (of_log first others)) [
+      | inl empty ↦
+          let short : length (in_order (first ∷ order) others) ≡ 0 = ap length (stops first order others empty) in
+          absurd (omega (arith, short, places))
+      | inr has ↦
+          let later = without_next first others in
+          let now : in_order (first ∷ order) others ≡ has.0 ∷ in_order order later =
+          begins first order others has.0 has.1 has.2 in
+          let one : in_order (first ∷ []) others ≡ has.0 ∷ [] = begins first [] others has.0 has.1 has.2 in
+          let all : gone ++ in_order (first ∷ order) others ≡ (gone ++ in_order (first ∷ []) others)
+          ++ in_order order later =
+          ap (λ (l : List Record). gone ++ l) (now ∙ ap (λ (l : List Record). l ++ in_order order later) (sym one))
+          ∙ sym (append_assoc gone (in_order (first ∷ []) others) (in_order order later)) in (
+            names.0,
+            names_more order (gone ++ in_order (first ∷ []) others) later log
+                (omega (arith, places, ap length now)) names.1
+                (subst (λ (rs : List Record). NoneLower rs (left_by order later) log) all
+                (subst (λ (rs : List Record). NoneLower (gone ++ in_order (first ∷ order) others) rs log)
+                (leaves first order others has.0 has.1 has.2) none)),
+          )
+    ]
+
 -- ---- the loop
 
 -- Of these records the order took some, and so many of them are of the log in which one is sought.
 pub record Going (sought : Sought) (now : Left) (order : List ℕ) (count : ℕ) (records : List Record) : Type 0 where
   pub places : length (in_order order records) ≡ length order
   pub numbers : KeepsNumbers (in_order order records)
+  pub lowest : NamesLowest [] records order
   pub left : HasLeft now (in_order order records) (left_by order records)
   pub before : count ≡ length (filter (is_counted sought) (in_order order records))
 
@@ -173,6 +207,7 @@ pub going_at_first : (sought : Sought) (left : Left) (records : List Record) →
 going_at_first sought left records has = record {
   places = refl;
   numbers = λ bank lt. refl;
+  lowest = tt;
   left = has;
   before = refl;
 }
@@ -197,11 +232,16 @@ module _ (sought : Sought) (left new : Left) (order : List ℕ) (before : ℕ) (
   numbers_more : KeepsNumbers (in_order more records)
   numbers_more = subst KeepsNumbers (sym taken.0) (keeps_more drawn comes.item comes.due going.numbers)
 
+  lowest_more : NamesLowest [] records more
+  lowest_more =
+      names_more order [] records e.log going.places going.lowest (λ lower r rest. comes.lowest lower r rest)
+
   -- the record that came is the one that is sought
   pub ends_here : is_entry_sought sought before e ≡ true → IsOrderTo sought records more true
   ends_here is = record {
     all_places = places_more;
     numbers = numbers_more;
+    lowest = lowest_more;
     ends = record {
       before = drawn;
       last = comes.item;
@@ -232,6 +272,7 @@ module _ (sought : Sought) (left new : Left) (order : List ℕ) (before : ℕ) (
   goes_on now is = record {
     places = places_more;
     numbers = numbers_more;
+    lowest = lowest_more;
     left = subst (λ (rs : List Record). HasLeft new rs (left_by more records)) (sym taken.0)
         (subst (HasLeft new (drawn ++ comes.item ∷ [])) (sym taken.1) comes.left);
     before = is ∙ sym (counted_more (is_counted sought comes.item) refl)

@@ -1,6 +1,6 @@
 -- The order of a no: each log in its own order and the records of each bank by their numbers, as far as they go, and
 -- no further than to the record that is sought.
-use Rattle.std.specs.Prelude.{◌≡◌, ℕ, ◌==◌, ◌&&◌, ◌||◌, not, nat_lt, Bool, true, false, List, [], ◌∷◌, ◌++◌}
+use Rattle.std.specs.Prelude.{◌≡◌, ℕ, ◌<◌, ◌==◌, ◌&&◌, ◌||◌, not, nat_lt, Bool, true, false, List, [], ◌∷◌, ◌++◌}
 use Rattle.std.specs.Prelude.{length, filter}
 use Rattle.lf_rules.specs.declared.event.Record.{Record}
 use Rattle.lf_rules.specs.Address.{no_bank}
@@ -8,7 +8,7 @@ use Rattle.lf_rules.specs.Run.{of_log, of_bank, KeepsNumbers}
 use Rattle.wave_order.specs.declared.sought.Entry.{Entry}
 use Rattle.wave_order.specs.declared.sought.Sought.{Sought}
 use Rattle.wave_order.specs.declared.sought.Sought.TheVariants.{Nothing, InLog, InBank}
-use Rattle.wave_order.specs.Ordered.{in_order, left_by}
+use Rattle.wave_order.specs.Ordered.{without_next, in_order, left_by}
 
 -- ---- which record is sought
 
@@ -44,6 +44,14 @@ abbrev pub NoneMayCome : List Record → List Record → Type 0
 NoneMayCome gone others = (log : ℕ) (r : Record) (rest : List Record) → of_log log others ≡ r ∷ rest →
     is_due gone r ≡ false
 
+-- After these, each place names the lowest log whose next record of the others may come.
+abbrev pub NamesLowest : List Record → List Record → List ℕ → Type 0
+NamesLowest gone others [] = Unit {0}
+NamesLowest gone others (log ∷ order) =
+    ((lower : ℕ) (r : Record) (rest : List Record) → lower < log → of_log lower others ≡ r ∷ rest →
+    is_due gone r ≡ false)
+    × NamesLowest (gone ++ in_order (log ∷ []) others) (without_next log others) order
+
 -- The last one of these is the one that is sought.
 pub record EndsWith (sought : Sought) (records : List Record) : Type 0 where
   pub before : List Record
@@ -61,4 +69,5 @@ pub record IsOrderTo (sought : Sought) (records : List Record) (order : List ℕ
   -- Each place has the next record of the log that it names.
   pub all_places : length (in_order order records) ≡ length order
   pub numbers : KeepsNumbers (in_order order records)
+  pub lowest : NamesLowest [] records order
   pub ends : Ends sought reached (in_order order records) (left_by order records)

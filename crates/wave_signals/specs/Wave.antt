@@ -82,17 +82,17 @@ bank_changes size busy bank (events.Primary port tag register) = request_changes
     ++ number_change register (signals.Register bank)
 bank_changes size busy bank (events.Merge port tag register) = request_changes size busy bank port tag
     ++ number_change register (signals.Register bank)
-bank_changes bank (events.SecondPrimary block register) = number_change block (signals.Block bank)
+bank_changes size busy bank (events.SecondPrimary block register) = number_change block (signals.Block bank)
     ++ number_change register (signals.Register bank)
-bank_changes bank (events.SecondMerge block register) = number_change block (signals.Block bank)
+bank_changes size busy bank (events.SecondMerge block register) = number_change block (signals.Block bank)
     ++ number_change register (signals.Register bank)
-bank_changes bank (events.Fill1 block bytes) = number_change block (signals.Block bank)
-bank_changes bank (events.Evict1 block mask bytes) = number_change block (signals.Block bank)
-bank_changes bank (events.SecondHit block) = number_change block (signals.Block bank)
-bank_changes bank (events.SecondStall block) = number_change block (signals.Block bank)
-bank_changes bank (events.Fill2 second bytes) = number_change second (signals.Block bank)
-bank_changes bank (events.Evict2 second masks bytes) = number_change second (signals.Block bank)
-bank_changes bank event = []
+bank_changes size busy bank (events.Fill1 block bytes) = number_change block (signals.Block bank)
+bank_changes size busy bank (events.Evict1 block mask bytes) = number_change block (signals.Block bank)
+bank_changes size busy bank (events.SecondHit block) = number_change block (signals.Block bank)
+bank_changes size busy bank (events.SecondStall block) = number_change block (signals.Block bank)
+bank_changes size busy bank (events.Fill2 second bytes) = number_change second (signals.Block bank)
+bank_changes size busy bank (events.Evict2 second masks bytes) = number_change second (signals.Block bank)
+bank_changes size busy bank event = []
 
 abbrev pub named_by : View → List BusyTag → ℕ → ℕ → ℕ → Event → List ℕ
 named_by view busy log bank number (events.Issue op tag size address bytes) =
@@ -257,7 +257,7 @@ moment view place busy level1 level2 flows r =
     ++ (register_changes view level1 level2 r.bank r.event
     ++ (traffic_changes r.bank (counts_of (flow_at flows.banks r.bank)) r.event
     ++ (time place (codes "9") ++ (text_change [] (event_signal r.log r.bank r.event)
-    ++ page_behind view.marker place)))))))
+    ++ page_behind view.marker place))))))
 
 abbrev pub is_shown : View → ℕ → Bool
 is_shown view place = nat_le view.from place && nat_le place view.to

@@ -290,11 +290,7 @@ impl fmt::Display for Moment<'_> {
             marker: view.marker,
             place,
         };
-        let changes = RecordChanges {
-            view,
-            busy,
-            item,
-        };
+        let changes = RecordChanges { view, busy, item };
         let registers = RegisterChanges {
             view,
             level1,

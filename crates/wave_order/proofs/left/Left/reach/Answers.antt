@@ -9,8 +9,13 @@ loop-self-preserved c gone records has =
     let queues = c.loop-self.self.logs.items in
     let more = c.in_ok-push.ensures.items in
     record {
-      few = omega (arith, ap length more ∙ length-append queues (c.new.result ∷ []), c.loop-self-test.true, c.requires,
-          c.len.ensures);
+      few = omega (
+        arith,
+        ap length more ∙ length-append queues (c.new.result ∷ []),
+        c.loop-self-test.true,
+        c.requires,
+        c.len.ensures,
+      );
       sized = was.sized;
       each = subst (λ (qs : List Queue). AreOf (map (λ q. q.items) qs) records) (sym more)
           (log_more queues c.new.result records c.new.ensures.items was.each);
