@@ -46,6 +46,8 @@ struct Output<'a> {
     out: &'a str,
     window: Window,
     times: Option<Times>,
+    /// Each request of a legal trace must have a reply.
+    complete: bool,
     /// A terminal shows how far the reading is.
     clears: bool,
 }
@@ -124,6 +126,26 @@ fn course_of<T: AllocGlobal, R: Read + Drop>(
         marker: None,
         is_part: false,
     })
+}
+
+/// What is drawn of a trace of this shape, and whether records are left.
+fn drawing_in(
+    window: Window,
+    times: Option<Times>,
+    shape: &Shape,
+    course: Course,
+) -> (Drawing, bool) {
+    let Course {
+        logs,
+        marker,
+        is_part,
+    } = course;
+    let drawing = Drawing {
+        view: view_in(window, shape, marker),
+        times,
+        order: logs,
+    };
+    (drawing, is_part)
 }
 
 /// Tells why the trace was not read to its end.
@@ -229,25 +251,22 @@ where
         out,
         window,
         times,
+        complete,
         clears,
     } = output;
-    let Conclusion { outcome, order, .. } = conclusion;
+    let Conclusion {
+        outcome,
+        order,
+        incomplete,
+        ..
+    } = conclusion;
     let found = course_of(rt, &outcome, order, searched);
     if clears {
         clear(rt);
     }
-    let Course {
-        logs,
-        marker,
-        is_part,
-    } = match found {
-        Ok(course) => course,
+    let (drawing, is_part) = match found {
+        Ok(course) => drawing_in(window, times, shape, course),
         Err(why) => return refuse_read(rt, out, why),
-    };
-    let drawing = Drawing {
-        view: view_in(window, shape, marker),
-        times,
-        order: logs,
     };
     let written = put_wave(rt, out, drawing, is_part, shape, shown);
     if clears {
@@ -256,8 +275,16 @@ where
     if let Err(why) = written {
         return refuse_write(rt, out, why);
     }
-    tell(rt, out, Line::Concluded(&outcome))?;
-    Ok(Ending::of(&outcome))
+    match incomplete {
+        Some(request) if complete => {
+            tell(rt, out, Line::Incomplete(request))?;
+            Ok(Ending::No)
+        }
+        _ => {
+            tell(rt, out, Line::Concluded(&outcome))?;
+            Ok(Ending::of(&outcome))
+        }
+    }
 }
 
 /// Judges the trace, and shows one that has a yes or a no.
@@ -354,6 +381,7 @@ where
         out,
         window: options.window,
         times,
+        complete: options.complete,
         clears: tells_by_itself(size_of_file(rt, trace), on_terminal),
     };
     view_at(rt, &shape, trace, output, on_terminal)
