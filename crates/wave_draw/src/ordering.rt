@@ -55,9 +55,9 @@ impl Sink for Split {
     }
 }
 
-/// Reads the trace until the reader is at its end or a fault of the format stands in what it gave, and answers the order
-/// of its records that ends with the one that is sought, or where no record may come. Each read is a turn, and there are
-/// at most so many turns.
+/// Reads the trace until the reader is at its end or a fault of the format stands in what it gave, and answers the
+/// order of its records that ends with the one that is sought, or where no record may come. Each read is a turn, and
+/// there are at most so many turns.
 ///
 /// `ViewFault::Read` says that a read failed, `ViewFault::Turns` that the turns were used up before the trace was
 /// read, and `ViewFault::Memory` that a growth was refused.

@@ -1,9 +1,10 @@
 -- The order, while one record after another comes.
 use Rattle.std.proofs.Common.{◌≡◌, ℕ, zero, suc, ◌+◌, ◌<◌, true, false, ◌==◌, List, [], ◌∷◌, ◌++◌, length}
-use Rattle.std.proofs.Common.{filter, map, drop, set, get_or, slice_index, slice_set, replicate, refl, sym, ap, ◌∙◌, subst}
-use Rattle.std.proofs.Common.{eqb-true, inl, inr, arith, Bool, if◌then◌else◌, add-zero}
+use Rattle.std.proofs.Common.{filter, map, drop, set, get_or, slice_index, slice_set, replicate, refl, sym, ap, ◌∙◌}
+use Rattle.std.proofs.Common.{subst, eqb-true, inl, inr, arith, Bool, if◌then◌else◌, add-zero}
 use Rattle.std.proofs.lemmas.Bool.{cases_Bool, cond-true, cond-false, eqb-false}
-use Rattle.std.proofs.lemmas.List.{get_or-set_same, get_or-set_other, append-nil, append_assoc, length-append, length-set}
+use Rattle.std.proofs.lemmas.List.{get_or-set_same, get_or-set_other, append-nil, append_assoc, length-append}
+use Rattle.std.proofs.lemmas.List.{length-set}
 use Rattle.std.proofs.lemmas.List.Elements.{filter-append}
 use Rattle.lf_rules.specs.declared.event.Record.{Record}
 use Rattle.lf_rules.specs.Address.{no_bank}
@@ -14,7 +15,8 @@ use Rattle.wave_order.specs.declared.left.Left.{Left}
 use Rattle.wave_order.specs.declared.sought.Entry.{Entry}
 use Rattle.wave_order.specs.declared.sought.Sought.{Sought}
 use Rattle.wave_order.specs.Left.{queued, begins_due, HasLeft, ComesLowest}
-use Rattle.wave_order.specs.OrderTo.{entry_of, is_due, counts_entry, is_counted, is_entry_sought, NoneMayCome, NamesLowest, IsOrderTo}
+use Rattle.wave_order.specs.OrderTo.{entry_of, is_due, counts_entry, is_counted, is_entry_sought, NoneMayCome}
+use Rattle.wave_order.specs.OrderTo.{NamesLowest, IsOrderTo}
 use Rattle.wave_order.specs.Ordered.{without_next, in_order, left_by}
 use Rattle.wave_order.proofs.Ordered.{either, stops, begins, leaves}
 use Rattle.wave_order.proofs.Coming.{Counts, begins_alike, some_begins, of_it, of_another, due_number, keeps_more}

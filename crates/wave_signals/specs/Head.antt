@@ -119,8 +119,8 @@ scopes times view ports banks =
     ++ (number_variable 1 signals.Fault (codes "fault") ++ (text_variable signals.Rule (codes "rule")
     ++ (port_scopes view.tags ports ++ (bank_scopes view banks ++ scope_end)))))
 
--- ---- the first values: no time, mostly no fault, no word, no tag is busy, no register is held, no block goes between the
--- levels, and no line is dirty
+-- ---- the first values: no time, no word, no tag is busy, no register is held, no block goes between the levels, no
+-- line is dirty, and there is no fault where it is not before
 
 abbrev pub time_start : Bool → List ℕ
 time_start true = text_change [] signals.Time

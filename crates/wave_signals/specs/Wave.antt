@@ -1,6 +1,6 @@
 -- The wave of a trace: what each record changes. A record's place is the number of records that stand before it.
-use Rattle.std.specs.Prelude.{ℕ, ◌+◌, ◌-◌, ◌^◌, min, ◌==◌, ◌&&◌, ◌||◌, not, Bool, true, false, List, [], ◌∷◌, ◌++◌, codes, nat_le}
-use Rattle.std.specs.Prelude.{if◌then◌else◌, Option, Some, None, filter, count_by, flat_map}
+use Rattle.std.specs.Prelude.{ℕ, ◌+◌, ◌-◌, ◌^◌, min, ◌==◌, ◌&&◌, ◌||◌, not, Bool, true, false, List, [], ◌∷◌, ◌++◌}
+use Rattle.std.specs.Prelude.{codes, nat_le, if◌then◌else◌, Option, Some, None, filter, count_by, flat_map}
 use Rattle.std.specs.Fmt.{decimal}
 use Rattle.std.specs.List.{range_with_len}
 use Rattle.lf_rules.specs.Text.{rule_text}

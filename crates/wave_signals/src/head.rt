@@ -3,11 +3,11 @@
 ghost use Rattle.std.specs.Prelude.{◌≡◌, Some};
 ghost use Rattle.wave_signals.specs.Head.{scope_begin, scope_end, port_scope, port_scopes, bank_scope, bank_scopes};
 ghost use Rattle.wave_signals.specs.Head.{scopes};
-ghost use Rattle.wave_signals.specs.Head.{tag_starts, port_start, port_starts, bank_starts, fault_start, start, head_text};
+ghost use Rattle.wave_signals.specs.Head.{tag_starts, port_start, port_starts, bank_starts, fault_start, start};
 ghost use Rattle.wave_signals.specs.Head.{port_values, bank_values, register_values, traffic_values};
 ghost use Rattle.wave_signals.specs.Head.{held_variable, targets_variable, register_variable, register_variables};
 ghost use Rattle.wave_signals.specs.Head.{no_counts, register_starts, bank_start};
-ghost use Rattle.wave_signals.specs.Head.{tag_variable, tag_variables, time_variable, time_start};
+ghost use Rattle.wave_signals.specs.Head.{tag_variable, tag_variables, time_variable, time_start, head_text};
 
 use crate::change::{BitChange, FreeChange, NumberChange, TextChange};
 use crate::moment::{FaultNamed, Time};

@@ -9,12 +9,10 @@ returns-clause-lowest c gone records has =
     let at = c.in_ok-at.at in
     let lowest = c.in_ok-at.ensures in
     let same : c.in_ok-log.log ≡ at = search rules in
-    let first : c.in_ok-get_mut.field-0.now.items ≡ (c.in_ok-bank.bank, c.in_ok-bank.number) ∷ c.pop_front.new.self.items =
-    c.in_ok-bank.ensures.items in
     let fits : c.in_ok-bank.bank < 256 = search rules in
     comes_lowest left gone records has at c.in_ok-log.log c.in_ok-bank.bank c.in_ok-bank.number same lowest.0
-    lowest.1 lowest.2 c.in_ok-get_mut.field-0.now c.pop_front.new.self c.in_ok-get_mut.ensures.value first
-    c.pop_front.ensures.rest fits _ refl
+    lowest.1 lowest.2 c.in_ok-get_mut.field-0.now c.pop_front.new.self c.in_ok-get_mut.ensures.value
+    c.in_ok-bank.ensures.items c.pop_front.ensures.rest fits _ refl
     (ap₂ (λ (b n : ℕ). slice_set left.next b (n + 1)) c.from-2.ensures c.from.ensures)
 
 pub returns-clause-fewer : goal.returns-clause-fewer
