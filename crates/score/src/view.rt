@@ -13,7 +13,7 @@ use crate::trace::{Trace, size_of_file};
 use command_line::{ViewOptions, Window};
 use explain_lines::Times;
 use lf_rules::{Rule, Shape};
-use lf_verdict::{Conclusion, Fault, Outcome};
+use lf_verdict::{Conclusion, Fault, Incomplete, Outcome};
 use run_engine::{Counted, InputFault, Judged, Line, Needs, judge, shape_for};
 use std::alloc::AllocError;
 use std::io;
@@ -65,8 +65,6 @@ struct Readers<R> {
 struct Course {
     logs: Option<Vec<u8>>,
     marker: Option<Marker>,
-    /// It goes to the fault alone, so that records are left.
-    is_part: bool,
 }
 
 /// The record that a no names, where it breaks a rule, and the rule.
@@ -107,7 +105,6 @@ fn course_of_no<T: AllocGlobal, R: Read + Drop>(
     Ok(Course {
         logs: Some(front.logs),
         marker,
-        is_part: true,
     })
 }
 
@@ -124,28 +121,7 @@ fn course_of<T: AllocGlobal, R: Read + Drop>(
     Ok(Course {
         logs: order,
         marker: None,
-        is_part: false,
     })
-}
-
-/// What is drawn of a trace of this shape, and whether records are left.
-fn drawing_in(
-    window: Window,
-    times: Option<Times>,
-    shape: &Shape,
-    course: Course,
-) -> (Drawing, bool) {
-    let Course {
-        logs,
-        marker,
-        is_part,
-    } = course;
-    let drawing = Drawing {
-        view: view_in(window, shape, marker),
-        times,
-        order: logs,
-    };
-    (drawing, is_part)
 }
 
 /// Tells why the trace was not read to its end.
@@ -156,8 +132,8 @@ fn refuse_read<T: Print + Eprint>(rt: &T, out: &str, why: ViewFault) -> io::Resu
     }
 }
 
-/// Writes the wave of the trace. A trace that is none any more, or is not that of the order of a yes, was changed while
-/// it was read.
+/// Writes the wave of the trace, of which the order may name a part alone. A trace that is none any more, or is not that
+/// of the order, was changed while it was read.
 fn write_wave<T: AllocGlobal, R: Read + Drop, W: Write + Drop>(
     rt: &T,
     drawing: Drawing,
@@ -235,7 +211,22 @@ where
     }
 }
 
-/// Writes the wave of a trace in its order, and tells the line of the verdict.
+/// Tells the line of the verdict, or that of a request without a reply.
+fn tell_answer<T: Print + Eprint>(
+    rt: &T,
+    out: &str,
+    outcome: &Outcome,
+    request: Option<Incomplete>,
+) -> io::Result<Ending> {
+    if let Some(request) = request {
+        tell(rt, out, Line::Incomplete(request))?;
+        return Ok(Ending::No);
+    }
+    tell(rt, out, Line::Concluded(outcome))?;
+    Ok(Ending::of(outcome))
+}
+
+/// Writes the wave of a trace in its order, and tells its line.
 fn hand_out<T: Print + Eprint + Files + AllocGlobal, R: Read + Drop>(
     rt: &T,
     shape: &Shape,
@@ -264,10 +255,16 @@ where
     if clears {
         clear(rt);
     }
-    let (drawing, is_part) = match found {
-        Ok(course) => drawing_in(window, times, shape, course),
+    let Course { logs, marker } = match found {
+        Ok(course) => course,
         Err(why) => return refuse_read(rt, out, why),
     };
+    let drawing = Drawing {
+        view: view_in(window, shape, marker),
+        times,
+        order: logs,
+    };
+    let is_part = matches!(&outcome, Outcome::No(_));
     let written = put_wave(rt, out, drawing, is_part, shape, shown);
     if clears {
         clear(rt);
@@ -275,16 +272,8 @@ where
     if let Err(why) = written {
         return refuse_write(rt, out, why);
     }
-    match incomplete {
-        Some(request) if complete => {
-            tell(rt, out, Line::Incomplete(request))?;
-            Ok(Ending::No)
-        }
-        _ => {
-            tell(rt, out, Line::Concluded(&outcome))?;
-            Ok(Ending::of(&outcome))
-        }
-    }
+    let request = if complete { incomplete } else { None };
+    tell_answer(rt, out, &outcome, request)
 }
 
 /// Judges the trace, and shows one that has a yes or a no.
