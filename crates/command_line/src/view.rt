@@ -40,11 +40,10 @@ record that FILE does not name. FILE is the time map that a recorder wrote
 beside the trace; see score help explain. GTKWave shows time first.
 
 A TRACE that is a pipe or a FIFO is kept in memory. The order is kept too, a
-byte for each record, and the records that stand in TRACE before their turn or
-after the one that breaks a rule. OUT is written beside its place first and then renamed. If OUT is
--, it is standard output, the line goes to standard error, and there is no
-second file. If standard error is a terminal, it shows how far a long TRACE is
-read.
+byte for each record, and the records that stand in TRACE before their turn.
+OUT is written beside its place first and then renamed. If OUT is -, it is
+standard output, the line goes to standard error, and there is no second file.
+If standard error is a terminal, it shows how far a long TRACE is read.
 
 Answers:
   no bank=0 number=5 rule=ReplyData  what check says; OUT is written
