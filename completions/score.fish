@@ -43,5 +43,6 @@ complete -c score -n '__fish_seen_subcommand_from shrink; and not __fish_seen_su
 complete -c score -n '__fish_seen_subcommand_from view; and not __fish_seen_subcommand_from help' -l from -x -d 'The place of the first record to show'
 complete -c score -n '__fish_seen_subcommand_from view; and not __fish_seen_subcommand_from help' -l to -x -d 'The place of the last record to show'
 complete -c score -n '__fish_seen_subcommand_from view; and not __fish_seen_subcommand_from help' -l map -r -F -d 'The times of the records'
+complete -c score -n '__fish_seen_subcommand_from view; and not __fish_seen_subcommand_from help' -l complete -d 'Also asks for a reply to each request'
 complete -c score -n '__fish_seen_subcommand_from view; and not __fish_seen_subcommand_from help' -s h -l help -d 'Print help'
 complete -c score -f -n '__fish_seen_subcommand_from help' -a 'check stats explain cover demo watch dump assemble shrink view'

@@ -1,7 +1,7 @@
 //! `score view CONFIG TRACE OUT`.
 
 use crate::Request;
-use crate::argument::{Argument, CONFIG, MAP, OUT, TRACE, Takes};
+use crate::argument::{Argument, COMPLETE, CONFIG, MAP, OUT, TRACE, Takes};
 use crate::files::{LEFT_OUT, files_of};
 use clap::ArgMatches;
 
@@ -12,11 +12,15 @@ pub const ABOUT: &str = "Writes a waveform of a trace, which GTKWave shows";
 pub const HELP: &str = "\
 The line is that of check; see score help check. For a yes or a no, OUT is
 written, in the text form VCD. A second file makes GTKWave show all signals:
-its name is that of OUT with .gtkw instead of .vcd.
+its name is that of OUT with .gtkw instead of .vcd. With --complete, each
+request of a legal trace must also have a reply, as check --complete asks.
 
 For a yes, the records stand in an order of all events that is a legal run:
-the order of the yes, see docs/RULES.md. For a no, they stand in the order of
-TRACE. The record at place N of the order, from 0, is at N nanoseconds. A port
+the order of the yes, see docs/RULES.md. For a no, each log is in its own
+order, and the records of each bank are in the order of their numbers. They go
+up to the record that breaks a rule, or as far as they can.
+
+The record at place N of the order, from 0, is at N nanoseconds. A port
 has its record (event), with tag and address, how many of its requests have no
 reply (outstanding), and whether each tag is busy. A bank has its record, its
 number, its block, the port and the tag of its request, its register, how many
@@ -27,23 +31,23 @@ of a level the block that it holds (z: none) and how many targets wait in it.
 If a record of a port or of a bank breaks a rule, fault rises at that record,
 and rule is the name of the rule.
 
-Without --from, the waveform begins 200 records before the one that breaks a
-rule, and without --to it ends with that one. Otherwise it is that of the
-whole trace.
+Without --from, the waveform of a no begins 200 records before the one that
+breaks a rule. It has no records after that one, but it ends 32 nanoseconds
+later, so that GTKWave can open there. That of a yes is of the whole trace.
 
 With --map FILE, time is the time of each record, and the empty text for a
 record that FILE does not name. FILE is the time map that a recorder wrote
 beside the trace; see score help explain. GTKWave shows time first.
 
-A TRACE that is a pipe or a FIFO is kept in memory. For a yes, the order is
-kept too, a byte for each record, and the records that stand in TRACE before
-their turn. OUT is written beside its place first and then renamed. If OUT is
--, it is standard output, the line goes to standard error, and there is no
-second file. If standard error is a terminal, it shows how far a long TRACE is
-read.
+A TRACE that is a pipe or a FIFO is kept in memory. The order is kept too, a
+byte for each record, and the records that stand in TRACE before their turn.
+OUT is written beside its place first and then renamed. If OUT is -, it is
+standard output, the line goes to standard error, and there is no second file.
+If standard error is a terminal, it shows how far a long TRACE is read.
 
 Answers:
   no bank=0 number=5 rule=ReplyData  what check says; OUT is written
+  no incomplete port=0 tag=3         with --complete; OUT is written
   refused write                      OUT cannot be written
   refused read map                   FILE cannot be read
 
@@ -71,6 +75,8 @@ pub struct ViewOptions<'a> {
     pub window: Window,
     /// The file in which a recorder wrote the time of each record.
     pub map: Option<&'a str>,
+    /// Each request of a legal trace must have a reply.
+    pub complete: bool,
 }
 
 const NO_WINDOW: &str = "the first record to show stands behind the last one";
@@ -104,6 +110,7 @@ pub const ARGUMENTS: &[Argument] = &[
         help: "The place of the last record to show",
     },
     MAP,
+    COMPLETE,
 ];
 
 pub fn request<'a>(matches: &ArgMatches<'a>) -> Result<Request<'a>, &'static str> {
@@ -122,6 +129,7 @@ pub fn request<'a>(matches: &ArgMatches<'a>) -> Result<Request<'a>, &'static str
         options: ViewOptions {
             window,
             map: matches.get_str("map"),
+            complete: matches.get_flag("complete"),
         },
     })
 }

@@ -13,26 +13,28 @@ use crate::trace::{Trace, size_of_file};
 use command_line::{ViewOptions, Window};
 use explain_lines::Times;
 use lf_rules::{Rule, Shape};
-use lf_verdict::{Conclusion, Fault, Outcome};
+use lf_verdict::{Conclusion, Fault, Incomplete, Outcome};
 use run_engine::{Counted, InputFault, Judged, Line, Needs, judge, shape_for};
 use std::alloc::AllocError;
 use std::io;
 use std::io::{ErrorKind, Read, Write};
 use std::rt::Files;
 use std::thread::Threads;
-use wave_draw::{Drawing, Sought, ViewFault, place_of, view as draw};
+use wave_draw::{Drawing, Sought, ViewFault, order_of_no, view as draw};
 use wave_signals::{Marker, SaveFile, View};
 
 /// So many records before the one that breaks a rule are shown, where nothing else is asked for.
 const BEFORE: u64 = 200;
 
-/// What the wave shows of a trace of this shape, in which this record breaks a rule.
+/// What the wave shows of a trace of this shape, in which this record breaks a rule. It is the last one.
 fn view_in(window: Window, shape: &Shape, marker: Option<Marker>) -> View {
-    let fault = marker.map(|marker| marker.place);
-    let begin = fault.map(|place| place.saturating_sub(BEFORE)).unwrap_or(0);
+    let begin = match marker {
+        Some(marker) => marker.place.saturating_sub(BEFORE),
+        None => 0,
+    };
     View {
         from: window.from.unwrap_or(begin),
-        to: window.to.or(fault).unwrap_or(u64::MAX),
+        to: window.to.unwrap_or(u64::MAX),
         marker,
         ..View::whole(shape)
     }
@@ -44,6 +46,8 @@ struct Output<'a> {
     out: &'a str,
     window: Window,
     times: Option<Times>,
+    /// Each request of a legal trace must have a reply.
+    complete: bool,
     /// A terminal shows how far the reading is.
     clears: bool,
 }
@@ -56,42 +60,68 @@ struct Readers<R> {
     shown: R,
 }
 
-/// The record that the outcome names, and its rule.
-fn sought_in(outcome: &Outcome) -> Option<(Sought, Rule)> {
-    match outcome {
-        Outcome::No(Fault::Port { port, at, rule }) => Some((
-            Sought::InLog {
+/// The order in which the records are drawn, and the record at fault.
+#[derive(Drop)]
+struct Course {
+    logs: Option<Vec<u8>>,
+    marker: Option<Marker>,
+}
+
+/// The record that a no names, where it breaks a rule, and the rule.
+fn sought_in(fault: &Fault) -> (Sought, Option<Rule>) {
+    match fault {
+        Fault::Port { port, at, rule } => {
+            let sought = Sought::InLog {
                 log: *port,
                 at: *at,
-            },
-            *rule,
-        )),
-        Outcome::No(Fault::Bank { bank, number, rule }) => Some((
-            Sought::InBank {
+            };
+            (sought, Some(*rule))
+        }
+        Fault::Bank { bank, number, rule } => {
+            let sought = Sought::InBank {
                 bank: *bank,
                 number: *number,
-            },
-            *rule,
-        )),
-        _ => None,
+            };
+            (sought, Some(*rule))
+        }
+        _ => (Sought::Nothing, None),
     }
 }
 
-/// Finds the record that the outcome names, so that it can be marked.
-fn marker_of<T: AllocGlobal, R: Read + Drop>(
+/// The order of a no, in which the record that it names is the last one.
+fn course_of_no<T: AllocGlobal, R: Read + Drop>(
+    rt: &T,
+    fault: &Fault,
+    reader: R,
+) -> Result<Course, ViewFault> {
+    let (sought, rule) = sought_in(fault);
+    let mut reader = Counted::new(reader);
+    let front = order_of_no(rt, &mut reader, sought, u32::MAX)?;
+    let last = (front.logs.len() as u64).saturating_sub(1);
+    let marker = match rule {
+        Some(rule) if front.reached => Some(Marker { place: last, rule }),
+        _ => None,
+    };
+    Ok(Course {
+        logs: Some(front.logs),
+        marker,
+    })
+}
+
+/// The order of a yes is that of its verdict.
+fn course_of<T: AllocGlobal, R: Read + Drop>(
     rt: &T,
     outcome: &Outcome,
+    order: Option<Vec<u8>>,
     reader: R,
-) -> Result<Option<Marker>, ViewFault> {
-    let Some((sought, rule)) = sought_in(outcome) else {
-        return Ok(None);
-    };
-    let mut reader = Counted::new(reader);
-    let place = place_of(rt, &mut reader, sought, u32::MAX)?;
-    Ok(place.map(|place| Marker {
-        place,
-        rule: Some(rule),
-    }))
+) -> Result<Course, ViewFault> {
+    if let Outcome::No(fault) = outcome {
+        return course_of_no(rt, fault, reader);
+    }
+    Ok(Course {
+        logs: order,
+        marker: None,
+    })
 }
 
 /// Tells why the trace was not read to its end.
@@ -102,11 +132,12 @@ fn refuse_read<T: Print + Eprint>(rt: &T, out: &str, why: ViewFault) -> io::Resu
     }
 }
 
-/// Writes the wave of the trace. A trace that is none any more, or is not that of the order, was changed while it was
-/// read.
+/// Writes the wave of the trace, of which the order may name a part alone. A trace that is none any more, or is not that
+/// of the order, was changed while it was read.
 fn write_wave<T: AllocGlobal, R: Read + Drop, W: Write + Drop>(
     rt: &T,
     drawing: Drawing,
+    is_part: bool,
     reader: R,
     writer: W,
 ) -> io::Result<()> {
@@ -114,6 +145,7 @@ fn write_wave<T: AllocGlobal, R: Read + Drop, W: Write + Drop>(
     let mut writer = Counted::new(writer);
     match draw(rt, &mut reader, &mut writer, drawing, u32::MAX) {
         Ok(None) => Ok(()),
+        Err(ViewFault::Order) if is_part => Ok(()),
         Err(ViewFault::Memory) => Err(io::Error::from(ErrorKind::OutOfMemory)),
         _ => Err(io::Error::from(ErrorKind::Other)),
     }
@@ -145,6 +177,7 @@ fn put_files<T: Print + Files + AllocGlobal, R: Read + Drop>(
     rt: &T,
     out: &str,
     drawing: Drawing,
+    is_part: bool,
     shape: &Shape,
     reader: R,
 ) -> io::Result<()>
@@ -154,7 +187,7 @@ where
     let save = save_text(rt, &drawing, shape)?;
     let beside = save_name(rt, out)?;
     let Part { name, file } = create_part(rt, out)?;
-    let written = write_wave(rt, drawing, reader, file);
+    let written = write_wave(rt, drawing, is_part, reader, file);
     finish(rt, name.as_str(), out, written)?;
     put(rt, beside.as_str(), save.as_bytes())
 }
@@ -164,6 +197,7 @@ fn put_wave<T: Print + Files + AllocGlobal, R: Read + Drop>(
     rt: &T,
     out: &str,
     drawing: Drawing,
+    is_part: bool,
     shape: &Shape,
     reader: R,
 ) -> io::Result<()>
@@ -171,13 +205,28 @@ where
     T::File: Drop,
 {
     match target_of(rt, out) {
-        Target::StandardOutput => write_wave(rt, drawing, reader, io::writer(rt)),
-        Target::Special => write_wave(rt, drawing, reader, std::fs::create(rt, out)?),
-        Target::File => put_files(rt, out, drawing, shape, reader),
+        Target::StandardOutput => write_wave(rt, drawing, is_part, reader, io::writer(rt)),
+        Target::Special => write_wave(rt, drawing, is_part, reader, std::fs::create(rt, out)?),
+        Target::File => put_files(rt, out, drawing, is_part, shape, reader),
     }
 }
 
-/// Writes the wave of a trace, that of a yes in its order, and tells the line of the verdict.
+/// Tells the line of the verdict, or that of a request without a reply.
+fn tell_answer<T: Print + Eprint>(
+    rt: &T,
+    out: &str,
+    outcome: &Outcome,
+    request: Option<Incomplete>,
+) -> io::Result<Ending> {
+    if let Some(request) = request {
+        tell(rt, out, Line::Incomplete(request))?;
+        return Ok(Ending::No);
+    }
+    tell(rt, out, Line::Concluded(outcome))?;
+    Ok(Ending::of(outcome))
+}
+
+/// Writes the wave of a trace in its order, and tells its line.
 fn hand_out<T: Print + Eprint + Files + AllocGlobal, R: Read + Drop>(
     rt: &T,
     shape: &Shape,
@@ -193,31 +242,38 @@ where
         out,
         window,
         times,
+        complete,
         clears,
     } = output;
-    let Conclusion { outcome, order, .. } = conclusion;
-    let found = marker_of(rt, &outcome, searched);
+    let Conclusion {
+        outcome,
+        order,
+        incomplete,
+        ..
+    } = conclusion;
+    let found = course_of(rt, &outcome, order, searched);
     if clears {
         clear(rt);
     }
-    let marker = match found {
-        Ok(marker) => marker,
+    let Course { logs, marker } = match found {
+        Ok(course) => course,
         Err(why) => return refuse_read(rt, out, why),
     };
     let drawing = Drawing {
         view: view_in(window, shape, marker),
         times,
-        order,
+        order: logs,
     };
-    let written = put_wave(rt, out, drawing, shape, shown);
+    let is_part = matches!(&outcome, Outcome::No(_));
+    let written = put_wave(rt, out, drawing, is_part, shape, shown);
     if clears {
         clear(rt);
     }
     if let Err(why) = written {
         return refuse_write(rt, out, why);
     }
-    tell(rt, out, Line::Concluded(&outcome))?;
-    Ok(Ending::of(&outcome))
+    let request = if complete { incomplete } else { None };
+    tell_answer(rt, out, &outcome, request)
 }
 
 /// Judges the trace, and shows one that has a yes or a no.
@@ -314,6 +370,7 @@ where
         out,
         window: options.window,
         times,
+        complete: options.complete,
         clears: tells_by_itself(size_of_file(rt, trace), on_terminal),
     };
     view_at(rt, &shape, trace, output, on_terminal)

@@ -1,23 +1,9 @@
 //! A trace with its wave written out.
 
-use crate::traces::TRACE;
 use run_stream::Counted;
 use std::test::Fail;
-use wave_draw::{Drawing, Sought, place_of, view, yes_is_drawn_in_its_order};
+use wave_draw::{Drawing, Sought, order_of_no, view, yes_is_drawn_in_its_order};
 use wave_signals::View;
-
-#[test]
-fn places_in_a_trace(rt: HostRuntime) -> Result<(), Fail> {
-    for (sought, due) in [
-        (Sought::InBank { bank: 0, number: 0 }, Some(0)),
-        (Sought::InLog { log: 0, at: 0 }, Some(0)),
-        (Sought::InLog { log: 0, at: 1 }, None),
-    ] {
-        let mut reader = Counted::new(&TRACE[..]);
-        assert_eq!(rt; place_of(&rt, &mut reader, sought, 10), Ok(due));
-    }
-    Ok(())
-}
 
 /// The load of port 1 stands before that of port 0.
 const TWO_PORTS: [u8; 64] = [
@@ -25,6 +11,24 @@ const TWO_PORTS: [u8; 64] = [
     8, 0, 0, 0, 0, 0, 0, 0, 1, 0, 0, 0, 0, 0, 0, 0, 0, 0, 8, 0, 0, 0, 0, 0, 0, 0, 0, 0, 0, 0, 0, 0,
     2, 0, 0, 0,
 ];
+
+#[test]
+fn orders_to_a_record(rt: HostRuntime) -> Result<(), Fail> {
+    for (sought, logs, reached) in [
+        (Sought::Nothing, &[0, 1][..], false),
+        (Sought::InLog { log: 0, at: 0 }, &[0][..], true),
+        (Sought::InLog { log: 0, at: 1 }, &[0, 1][..], false),
+        (Sought::InBank { bank: 0, number: 1 }, &[0, 1][..], true),
+    ] {
+        let mut reader = Counted::new(&TWO_PORTS[..]);
+        let Ok(front) = order_of_no(&rt, &mut reader, sought, 10) else {
+            return Err(Fail::from("there is no order"));
+        };
+        assert_eq!(rt; front.logs.as_slice(), logs);
+        assert_eq!(rt; front.reached, reached);
+    }
+    Ok(())
+}
 
 /// No bank and no tag has a signal.
 const PORTS: View = View {

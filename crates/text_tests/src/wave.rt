@@ -27,7 +27,7 @@ const VIEW: View = View {
     factor: 1,
     marker: Some(Marker {
         place: 2,
-        rule: Some(Rule::NotReady),
+        rule: Rule::NotReady,
     }),
 };
 
@@ -186,7 +186,6 @@ b0 p0o
 s p1e
 b0 p1o
 $end
-#10
 s1250\\040ns t
 sfence p1e
 #19

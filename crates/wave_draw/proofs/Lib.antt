@@ -1,7 +1,5 @@
-pub mod Found
-pub mod Ordered
 pub mod Pieces
-pub mod Places
+pub mod Splitting
 pub mod Telling
 pub mod Turns
 pub mod Viewed

@@ -18,11 +18,11 @@ use Rattle.wave_signals.specs.declared.view.View.{View}
 use Rattle.wave_signals.specs.Wave.{Drawn, undrawn, next, next_shown, drawn_after, wave_from}
 use Rattle.wave_draw.specs.declared.drawer.Drawer.{Drawer}
 use Rattle.wave_draw.specs.declared.order.Order.{Order}
-use Rattle.wave_draw.specs.Ordered.{drawn_of}
+use Rattle.wave_order.specs.Ordered.{drawn_of}
 use Rattle.wave_draw.specs.Turns.{order_of, HasComeTo, HasRoom}
 use Rattle.wave_draw.specs.declared.drawing.Drawing.{Drawing}
 use Rattle.wave_draw.specs.Viewing.{head_in, wave_of, IsDrawn, drawing_of, head_due, or_header, DrawsAll}
-use Rattle.wave_draw.proofs.Ordered.{none_drawn}
+use Rattle.wave_order.proofs.Ordered.{none_drawn}
 
 -- ---- records one behind another
 

@@ -18,7 +18,7 @@ use Rattle.wave_draw.specs.declared.fault.ViewFault.{ViewFault}
 use Rattle.wave_draw.specs.declared.fault.ViewFault.TheVariants.{Read, Turns, Memory, Write, Order}
 use Rattle.wave_draw.specs.declared.drawer.Drawer.{Drawer}
 use Rattle.wave_draw.specs.Viewing.{wave_of, IsDrawn, IsViewedSoFar, IsViewedInPart, IsCutOff, IsStopped, Shows}
-use Rattle.wave_draw.proofs.Ordered.{none_drawn}
+use Rattle.wave_order.proofs.Ordered.{none_drawn}
 
 -- a front of the bytes behind others
 front : (xs ys : List ℕ) (n : ℕ) → take (length xs + n) (xs ++ ys) ≡ xs ++ take n ys

@@ -1,6 +1,6 @@
 -- An order, as it goes on and at its end.
 use Rattle.std.proofs.Common.{◌≡◌, ◌≢◌, ℕ, ◌+◌, ◌<◌, ◌≤◌, Bool, List, [], ◌∷◌, ◌++◌, drop, get_or, length, Option}
-use Rattle.std.proofs.Common.{Some, None, refl, sym, ap, ◌∙◌, subst, append_assoc, append-nil, arith}
+use Rattle.std.proofs.Common.{Some, None, refl, sym, ap, ◌∙◌, subst, append_assoc, append-nil, arith, inl, inr}
 use Rattle.std.proofs.lemmas.List.{drop_more, length-append}
 use Rattle.std.proofs.Math.ListN.{drop_of_length-le}
 use Rattle.std.specs.Prelude.{IsTrue, ◌↔◌}
@@ -12,9 +12,9 @@ use Rattle.explain_lines.specs.declared.times.Times.{Times}
 use Rattle.wave_signals.specs.Wave.{Drawn, next, next_shown, drawn_after, wave_from}
 use Rattle.wave_draw.specs.declared.queues.Queues.{Queues}
 use Rattle.wave_draw.specs.declared.order.Order.{Order}
-use Rattle.wave_draw.specs.Ordered.{without_next, in_order, left_by, Names}
-use Rattle.wave_draw.specs.Turns.{queued, rest_of, HasCome, TakesDue, DrawsDue, DrawsMore}
-use Rattle.wave_draw.proofs.Ordered.{in_order-append, left_by-append, stops, stays, begins, leaves, without_none}
+use Rattle.wave_order.specs.Ordered.{without_next, in_order, left_by, Names}
+use Rattle.wave_draw.specs.Turns.{queued, rest_of, IsPast, HasCome, TakesDue, DrawsDue, DrawsMore}
+use Rattle.wave_order.proofs.Ordered.{in_order-append, left_by-append, stops, stays, begins, leaves, without_none}
 use Rattle.wave_draw.proofs.Waiting.{none_waits, all_empty}
 
 -- ---- at the end
@@ -22,18 +22,62 @@ use Rattle.wave_draw.proofs.Waiting.{none_waits, all_empty}
 module _ (order : Order) (records : List Record) (come : HasCome order records) where
   pub used_up : (empty : Bool) → order.next ≡ length order.logs.items →
       IsTrue empty ↔ All (λ q. q.items ≡ []) order.waiting.logs.items → IsTrue empty ↔ Names order.logs.items records
-  used_up empty last waits = (
-    λ is. record {
-      all_places = sym come.next ∙ last;
-      all_records =
-          none_waits order.waiting.logs.items (left_by order.logs.items records) come.waiting (waits.0 is);
-    },
-    λ names. waits.1 (all_empty order.waiting.logs.items
-        (subst (Interleaves (queued order.waiting)) names.all_records come.waiting)),
-  )
+  used_up empty last waits =
+      elim come.waiting [
+        | inl are ↦ (
+          λ is. record {
+            all_places = sym come.next ∙ last;
+            all_records = none_waits order.waiting.logs.items (left_by order.logs.items records) are (waits.0 is);
+          },
+          λ names. waits.1 (all_empty order.waiting.logs.items
+              (subst (Interleaves (queued order.waiting)) names.all_records are)),
+        )
+        | inr past ↦ (λ is. absurd (past.0.one_waits (waits.0 is)), λ names. absurd (past.1 names.all_records))
+      ]
 
   pub not_used_up : order.next ≢ length order.logs.items → ¬ Names order.logs.items records
   not_used_up before names = before (come.next ∙ names.all_places)
+
+  -- where not, the others wait
+  pub others_wait : ¬ IsPast order → Interleaves (queued order.waiting) (left_by order.logs.items records)
+  others_wait isnt = elim come.waiting [ inl are ↦ are | inr past ↦ absurd (isnt past.0) ]
+
+no_first : (xs ys : List Record) → xs ++ ys ≡ [] → xs ≡ []
+no_first [] ys none = refl
+no_first (x ∷ xs) ys none = cc
+
+-- no record has a turn
+module _ (times : Option Times) (order : Order) (wave : Drawn) (text : List ℕ) (records more : List Record)
+    (come : HasCome order records) (past : IsPast order) where
+  no_place : drop (length (in_order order.logs.items records)) order.logs.items ≡ []
+  no_place = drop_of_length-le order.logs.items (omega (arith, come.next, past.last))
+
+  none_due : in_order order.logs.items (records ++ more) ≡ in_order order.logs.items records ++ []
+  none_due = in_order-append order.logs.items records more
+      ∙ ap (λ (l : List ℕ). in_order order.logs.items records ++ in_order l (left_by order.logs.items records ++ more))
+      no_place
+
+  all_left : left_by order.logs.items (records ++ more) ≡ left_by order.logs.items records ++ more
+  all_left = left_by-append order.logs.items records more
+      ∙ ap (λ (l : List ℕ). left_by l (left_by order.logs.items records ++ more)) no_place
+
+  some_left : ¬ (left_by order.logs.items records ≡ [])
+  some_left none = elim come.waiting [
+    | inl are ↦ past.one_waits (all_empty order.waiting.logs.items (subst (Interleaves (queued order.waiting)) none are))
+    | inr before ↦ before.1 none
+  ]
+
+  pub draws_none : DrawsMore times (Some order) (Some order) wave wave text text records more
+  draws_none = record {
+    come = record {
+      next = come.next ∙ sym (ap length (none_due ∙ append-nil (in_order order.logs.items records)));
+      waiting = inr (past, λ none. some_left (no_first (left_by order.logs.items records) more (sym all_left ∙ none)));
+    };
+    due = [];
+    drawn = none_due;
+    shown = sym (append-nil text);
+    after = refl;
+  }
 
 -- ---- a turn
 
@@ -118,9 +162,9 @@ module _ (times : Option Times) (old mid new : Order) (wave wave' : Drawn) (text
           length-append (in_order old.logs.items records) (in_order (rest_of mid) all),
           ap (λ (v : Vec ℕ). length (in_order v.items (records ++ more))) named,
         );
-        waiting = subst (Interleaves (queued new.waiting))
+        waiting = inl (subst (Interleaves (queued new.waiting))
             (ap (λ (l : List ℕ). left_by l all) rest ∙ sym (left_by-append old.logs.items records more)
-            ∙ ap (λ (v : Vec ℕ). left_by v.items (records ++ more)) (sym named)) draws.waiting;
+            ∙ ap (λ (v : Vec ℕ). left_by v.items (records ++ more)) (sym named)) draws.waiting);
       }
 
   pub draws_more : DrawsMore times (Some old) (Some new) wave wave' text text' records more

@@ -10,8 +10,8 @@ use Rattle.std.specs.declared.collections.VecDeque.{VecDeque}
 use Rattle.lf_rules.specs.declared.event.Record.{Record}
 use Rattle.lf_rules.specs.Run.{of_log, Interleaves}
 use Rattle.lf_rules.specs.Order.{log_at}
-use Rattle.wave_draw.specs.Ordered.{without_next}
-use Rattle.wave_draw.proofs.Ordered.{of_log-append, of_log-without, of_log-without_other, without_none}
+use Rattle.wave_order.specs.Ordered.{without_next}
+use Rattle.wave_order.proofs.Ordered.{of_log-append, of_log-without, of_log-without_other, without_none}
 
 same_set : (logs : List (List Record)) (log : ℕ) (queue : List Record) → (log < length logs) →
     log_at (set logs log queue) log ≡ queue

@@ -17,9 +17,9 @@ use Rattle.lf_codec.proofs.TraceLaws.{trace_is_read}
 use Rattle.lf_logs.specs.Lists.{logs_of}
 use Rattle.wave_signals.specs.Wave.{undrawn, wave_from}
 use Rattle.wave_draw.specs.Laws.{OrdersTakeInOrder, YesIsDrawnInItsOrder}
-use Rattle.wave_draw.specs.Ordered.{without_next, in_order, left_by, drawn_of}
+use Rattle.wave_order.specs.Ordered.{without_next, in_order, left_by, drawn_of}
 use Rattle.wave_draw.specs.Viewing.{head_in}
-use Rattle.wave_draw.proofs.Ordered.{begins, leaves}
+use Rattle.wave_order.proofs.Ordered.{begins, leaves}
 use Rattle.wave_draw.proofs.Waiting.{one_less, none_left}
 
 -- a log that has a record is one of the logs

@@ -11,7 +11,7 @@ use Rattle.lf_logs.specs.Lists.{logs_of}
 use Rattle.wave_signals.specs.Head.{head_text}
 use Rattle.wave_signals.specs.Wave.{undrawn, wave_from}
 use Rattle.wave_draw.specs.declared.drawing.Drawing.{Drawing}
-use Rattle.wave_draw.specs.Ordered.{in_order, Names}
+use Rattle.wave_order.specs.Ordered.{in_order, Names}
 use Rattle.wave_draw.specs.Viewing.{wave_of}
 
 -- Where the order takes a list from the logs of some records, these records in the order are that list, and the order

@@ -1,6 +1,7 @@
 -- The records of a trace while they come: those whose turn it is are drawn, and the others wait.
 use Rattle.std.specs.Prelude.{◌≡◌, ℕ, ◌+◌, ◌^◌, ◌<◌, List, [], ◌++◌, length, drop, map, Option, Some, None}
-use Rattle.std.specs.Prelude.{option_to_list, IfNone}
+use Rattle.std.specs.Prelude.{option_to_list, IfNone, ◌⊎◌}
+use Rattle.std.specs.List.{All}
 use Rattle.std.specs.Global.{Vec}
 use Rattle.lf_rules.specs.declared.event.Record.{Record}
 use Rattle.lf_rules.specs.Run.{Interleaves}
@@ -8,7 +9,7 @@ use Rattle.explain_lines.specs.declared.times.Times.{Times}
 use Rattle.wave_signals.specs.Wave.{Drawn, drawn_after, wave_from}
 use Rattle.wave_draw.specs.declared.order.Order.{Order}
 use Rattle.wave_draw.specs.declared.queues.Queues.{Queues}
-use Rattle.wave_draw.specs.Ordered.{in_order, left_by, drawn_of}
+use Rattle.wave_order.specs.Ordered.{in_order, left_by, drawn_of}
 
 -- the records that wait, log by log
 abbrev pub queued : Queues → List (List Record)
@@ -18,10 +19,19 @@ queued q = map (λ log. log.items) q.logs.items
 abbrev pub rest_of : Order → List ℕ
 rest_of order = drop order.next order.logs.items
 
+-- A record waits behind the last place.
+pub record IsPast (order : Order) : Type 0 where
+  pub last : order.next ≡ length order.logs.items
+  pub one_waits : ¬ All (λ log. log.items ≡ []) order.waiting.logs.items
+
+-- The others wait, or some of them where there is no further place.
+abbrev pub Waits : Order → List Record → Type 0
+Waits order others = Interleaves (queued order.waiting) others ⊎ (IsPast order × ¬ (others ≡ []))
+
 -- All these records came. Those whose turn it was went, and the others wait.
 pub record HasCome (order : Order) (records : List Record) : Type 0 where
   pub next : order.next ≡ length (in_order order.logs.items records)
-  pub waiting : Interleaves (queued order.waiting) (left_by order.logs.items records)
+  pub waiting : Waits order (left_by order.logs.items records)
 
 -- Of these, which wait, the record whose turn it is goes. Where it did not come, none does.
 pub record TakesDue (old new : Order) (records : List Record) (item : Option Record) : Type 0 where

@@ -17,7 +17,7 @@ use Rattle.wave_draw.specs.declared.fault.ViewFault.{ViewFault}
 use Rattle.wave_draw.specs.declared.fault.ViewFault.TheVariants.{Read, Turns, Memory, Write, Order}
 use Rattle.wave_draw.specs.declared.drawer.Drawer.{Drawer}
 use Rattle.wave_draw.specs.declared.drawing.Drawing.{Drawing}
-use Rattle.wave_draw.specs.Ordered.{drawn_of, DrawsEach}
+use Rattle.wave_order.specs.Ordered.{drawn_of, DrawsEach}
 use Rattle.wave_draw.specs.Turns.{order_of, HasComeTo}
 
 -- ---- the wave of some bytes

@@ -6,7 +6,7 @@ ghost use Rattle.lf_rules.specs.declared.event.Record.{Record};
 ghost use Rattle.lf_codec.specs.Reading.{header_now};
 ghost use Rattle.text_dump.specs.Dump.{HasFault};
 ghost use Rattle.wave_draw.specs.declared.drawing.Drawing.{Drawing};
-ghost use Rattle.wave_draw.specs.Ordered.{DrawsEach};
+ghost use Rattle.wave_order.specs.Ordered.{DrawsEach};
 ghost use Rattle.wave_draw.specs.Turns.{order_of, HasComeTo, HasRoom, DrawsMore};
 ghost use Rattle.wave_draw.specs.Viewing.{IsDrawn, wave_of, drawing_of, head_due, or_header, DrawsAll, Closes};
 

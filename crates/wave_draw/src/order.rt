@@ -4,10 +4,11 @@ ghost use Rattle.std.specs.Prelude.{◌≡◌, ◌<◌, ◌+◌, ◌++◌, ◌�
 ghost use Rattle.std.specs.Prelude.{Some, OnOk, OnSome, IsTrue};
 ghost use Rattle.lf_rules.specs.declared.event.Record.{Record};
 ghost use Rattle.lf_rules.specs.Run.{Interleaves};
-ghost use Rattle.wave_draw.specs.Ordered.{Names};
-ghost use Rattle.wave_draw.specs.Turns.{queued, HasCome, TakesDue, DrawsDue, DrawsMore};
+ghost use Rattle.wave_order.specs.Ordered.{Names};
+ghost use Rattle.wave_draw.specs.Turns.{queued, IsPast, HasCome, TakesDue, DrawsDue, DrawsMore};
 
 use crate::queues::Queues;
+use crate::records::drop_records;
 use explain_lines::Times;
 use lf_codec::Reader;
 use lf_rules::{NoMemory, Record};
@@ -83,7 +84,15 @@ impl Order {
         Ok(())
     }
 
-    /// Takes all event records, and puts what is shown of those whose turn it is behind the text.
+    /// Whether a record waits behind the last place, so that none that comes has a turn.
+    fn is_past(&self) -> bool
+        ensures { IsTrue result ↔ IsPast self.now }
+    {
+        self.next == self.logs.len() && !self.waiting.is_empty()
+    }
+
+    /// Takes all event records, and puts what is shown of those whose turn it is behind the text. Behind the last place
+    /// only the records of one call wait.
     pub fn put_records(
         &mut self,
         reader: &mut Reader,
@@ -98,6 +107,10 @@ impl Order {
             OnOk result (DrawsMore times.now (Some self.old) (Some self.new) wave.old wave.new
             (string_bytes text.old) (string_bytes text.new) records reader.old.records) }
     {
+        if self.is_past() {
+            drop_records(reader);
+            return Ok(());
+        }
         self.keep(reader)?;
         self.put_due(times, wave, text)
     }

@@ -4,7 +4,7 @@ ghost use Rattle.std.specs.Prelude.{◌≡◌, ◌<◌, ◌++◌, ◌∷◌, ◌
 ghost use Rattle.lf_rules.specs.declared.event.Record.{Record};
 ghost use Rattle.std.specs.List.{All};
 ghost use Rattle.lf_rules.specs.Run.{of_log, Interleaves};
-ghost use Rattle.wave_draw.specs.Ordered.{without_next};
+ghost use Rattle.wave_order.specs.Ordered.{without_next};
 ghost use Rattle.wave_draw.specs.Turns.{queued};
 
 use lf_rules::{NoMemory, Record};

@@ -39,6 +39,13 @@ pub fn drop_memory(reader: &mut Reader)
     'all: while let Some(_) = reader.take_memory() {}
 }
 
+/// Lets all event records go.
+pub fn drop_records(reader: &mut Reader)
+    ensures { reader.new ≡ record reader.old { records = [] } }
+{
+    'all: while let Some(_) = reader.take() {}
+}
+
 /// Takes all event records, and puts what is shown of them behind the text.
 pub fn put_records(
     reader: &mut Reader,

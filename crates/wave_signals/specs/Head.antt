@@ -1,15 +1,17 @@
 -- The head of a wave: the scopes with their signals, and the values before the first record that is shown.
-use Rattle.std.specs.Prelude.{ℕ, Bool, true, false, List, [], ◌++◌, codes, flat_map}
+use Rattle.std.specs.Prelude.{ℕ, Bool, true, false, nat_lt, if◌then◌else◌, Option, Some, None, List, [], ◌++◌, codes}
+use Rattle.std.specs.Prelude.{flat_map}
 use Rattle.std.specs.List.{range_with_len}
 use Rattle.std.specs.Fmt.{decimal}
 use Rattle.wave_signals.specs.declared.registers.Level.{Level}
 use Rattle.wave_signals.specs.declared.registers.Level.TheVariants as levels
 use Rattle.wave_signals.specs.declared.signal.Signal.{Signal}
 use Rattle.wave_signals.specs.declared.signal.Signal.TheVariants as signals
+use Rattle.wave_signals.specs.declared.view.Marker.{Marker}
 use Rattle.wave_signals.specs.declared.view.View.{View}
 use Rattle.wave_signals.specs.Signals.{line, identifier, bit_change, number_change, text_change, level_text}
 use Rattle.wave_signals.specs.Signals.{free_change}
-use Rattle.wave_signals.specs.Wave.{time, all_counts}
+use Rattle.wave_signals.specs.Wave.{time, all_counts, fault_named}
 use Rattle.wave_traffic.specs.declared.counts.Counts.{Counts}
 
 -- ---- signals
@@ -117,8 +119,8 @@ scopes times view ports banks =
     ++ (number_variable 1 signals.Fault (codes "fault") ++ (text_variable signals.Rule (codes "rule")
     ++ (port_scopes view.tags ports ++ (bank_scopes view banks ++ scope_end)))))
 
--- ---- the first values: no time, no fault, no word, no tag is busy, no register is held, no block goes between the
--- levels, and no line is dirty
+-- ---- the first values: no time, no word, no tag is busy, no register is held, no block goes between the levels, no
+-- line is dirty, and there is no fault where it is not before
 
 abbrev pub time_start : Bool → List ℕ
 time_start true = text_change [] signals.Time
@@ -153,11 +155,19 @@ bank_start view bank =
 abbrev pub bank_starts : View → ℕ → List ℕ
 bank_starts view banks = flat_map (bank_start view) (range_with_len 0 banks)
 
+abbrev pub no_fault : List ℕ
+no_fault = bit_change false signals.Fault ++ text_change [] signals.Rule
+
+-- the fault, where the record at fault is before the first one that is shown
+abbrev pub fault_start : Option Marker → ℕ → List ℕ
+fault_start (Some m) from = if nat_lt m.place from then fault_named m.rule else no_fault
+fault_start None from = no_fault
+
 abbrev pub start : Bool → View → ℕ → ℕ → List ℕ
 start times view ports banks =
     time view.from (codes "0") ++ (line (codes "$dumpvars")
-    ++ (time_start times ++ (bit_change false signals.Fault ++ (text_change [] signals.Rule
-    ++ (port_starts view.tags ports ++ (bank_starts view banks ++ line (codes "$end")))))))
+    ++ (time_start times ++ (fault_start view.marker view.from
+    ++ (port_starts view.tags ports ++ (bank_starts view banks ++ line (codes "$end"))))))
 
 -- The head. A time is counted in tenths of a nanosecond.
 abbrev pub head_text : Bool → View → ℕ → ℕ → List ℕ

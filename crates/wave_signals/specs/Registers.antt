@@ -24,8 +24,8 @@ block_of_request size (Some b) = block_within size b.address
 block_of_request size None = None
 
 -- the block of the request that is outstanding with this tag
-abbrev pub block_missed : ℕ → List BusyTag → ℕ → ℕ → Option ℕ
-block_missed size busy port tag = block_of_request size (find (is_tag port tag) busy)
+abbrev pub block_requested : ℕ → List BusyTag → ℕ → ℕ → Option ℕ
+block_requested size busy port tag = block_of_request size (find (is_tag port tag) busy)
 
 -- ---- the registers of one level
 
@@ -82,9 +82,9 @@ in_use held bank = count_by (λ h. h.bank == bank) held
 -- The registers of level one after a record. A merge names the register of its block's primary miss, or one of its own.
 abbrev pub level1_after : ℕ → List BusyTag → ℕ → Event → List HeldRegister → List HeldRegister
 level1_after size busy bank (events.Primary port tag register) held =
-    taken_for (block_missed size busy port tag) bank register held
+    taken_for (block_requested size busy port tag) bank register held
 level1_after size busy bank (events.Merge port tag register) held =
-    joined_for (block_missed size busy port tag) bank register held
+    joined_for (block_requested size busy port tag) bank register held
 level1_after size busy bank (events.Fill1 block bytes) held = filled bank block held
 level1_after size busy bank event held = held
 

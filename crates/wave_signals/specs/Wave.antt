@@ -1,6 +1,6 @@
 -- The wave of a trace: what each record changes. A record's place is the number of records that stand before it.
-use Rattle.std.specs.Prelude.{ℕ, ◌+◌, ◌==◌, ◌&&◌, ◌||◌, not, Bool, true, false, List, [], ◌∷◌, ◌++◌, codes, nat_le}
-use Rattle.std.specs.Prelude.{if◌then◌else◌, Option, Some, None, filter, count_by, flat_map}
+use Rattle.std.specs.Prelude.{ℕ, ◌+◌, ◌-◌, ◌^◌, min, ◌==◌, ◌&&◌, ◌||◌, not, Bool, true, false, List, [], ◌∷◌, ◌++◌}
+use Rattle.std.specs.Prelude.{codes, nat_le, if◌then◌else◌, Option, Some, None, filter, count_by, flat_map}
 use Rattle.std.specs.Fmt.{decimal}
 use Rattle.std.specs.List.{range_with_len}
 use Rattle.lf_rules.specs.Text.{rule_text}
@@ -20,9 +20,9 @@ use Rattle.wave_signals.specs.declared.signal.Signal.{Signal}
 use Rattle.wave_signals.specs.declared.signal.Signal.TheVariants as signals
 use Rattle.wave_signals.specs.declared.view.Marker.{Marker}
 use Rattle.wave_signals.specs.declared.view.View.{View}
-use Rattle.wave_signals.specs.Registers.{is_of_block, register_of, in_use, level1_after, level2_after}
+use Rattle.wave_signals.specs.Registers.{block_requested, is_of_block, register_of, in_use, level1_after, level2_after}
 use Rattle.wave_signals.specs.Signals.{line, bit_change, number_change, text_change, busy_change, held_change}
-use Rattle.wave_signals.specs.Signals.{freed_change}
+use Rattle.wave_signals.specs.Signals.{absence_change, freed_change}
 use Rattle.wave_signals.specs.Times.{none_came, came_of, one_more_of, told_time}
 
 -- ---- busy tags: an issue makes its tag busy, and a reply frees it
@@ -63,42 +63,50 @@ port_changes tags busy port (events.Reply tag size bytes) =
     ++ number_change busy (signals.Outstanding port))
 port_changes tags busy port event = []
 
--- the request that a bank's record names
-abbrev pub request_changes : ℕ → ℕ → ℕ → List ℕ
-request_changes bank port tag = number_change port (signals.Requester bank) ++ number_change tag (signals.BankTag bank)
+-- the block of a request, where it is known
+abbrev pub block_change : ℕ → Option ℕ → List ℕ
+block_change bank (Some block) = number_change block (signals.Block bank)
+block_change bank None = absence_change (signals.Block bank)
+
+-- the request that a bank's record names, with its block, where a block has so many bytes and these tags are busy
+abbrev pub request_changes : ℕ → List BusyTag → ℕ → ℕ → ℕ → List ℕ
+request_changes size busy bank port tag =
+    number_change port (signals.Requester bank) ++ (number_change tag (signals.BankTag bank)
+    ++ block_change bank (block_requested size busy port tag))
 
 -- what a bank's record names
-abbrev pub bank_changes : ℕ → Event → List ℕ
-bank_changes bank (events.Hit port tag) = request_changes bank port tag
-bank_changes bank (events.Stall port tag) = request_changes bank port tag
-bank_changes bank (events.Primary port tag register) = request_changes bank port tag
+abbrev pub bank_changes : ℕ → List BusyTag → ℕ → Event → List ℕ
+bank_changes size busy bank (events.Hit port tag) = request_changes size busy bank port tag
+bank_changes size busy bank (events.Stall port tag) = request_changes size busy bank port tag
+bank_changes size busy bank (events.Primary port tag register) = request_changes size busy bank port tag
     ++ number_change register (signals.Register bank)
-bank_changes bank (events.Merge port tag register) = request_changes bank port tag
+bank_changes size busy bank (events.Merge port tag register) = request_changes size busy bank port tag
     ++ number_change register (signals.Register bank)
-bank_changes bank (events.SecondPrimary block register) = number_change block (signals.Block bank)
+bank_changes size busy bank (events.SecondPrimary block register) = number_change block (signals.Block bank)
     ++ number_change register (signals.Register bank)
-bank_changes bank (events.SecondMerge block register) = number_change block (signals.Block bank)
+bank_changes size busy bank (events.SecondMerge block register) = number_change block (signals.Block bank)
     ++ number_change register (signals.Register bank)
-bank_changes bank (events.Fill1 block bytes) = number_change block (signals.Block bank)
-bank_changes bank (events.Evict1 block mask bytes) = number_change block (signals.Block bank)
-bank_changes bank (events.SecondHit block) = number_change block (signals.Block bank)
-bank_changes bank (events.SecondStall block) = number_change block (signals.Block bank)
-bank_changes bank (events.Fill2 second bytes) = number_change second (signals.Block bank)
-bank_changes bank (events.Evict2 second masks bytes) = number_change second (signals.Block bank)
-bank_changes bank event = []
+bank_changes size busy bank (events.Fill1 block bytes) = number_change block (signals.Block bank)
+bank_changes size busy bank (events.Evict1 block mask bytes) = number_change block (signals.Block bank)
+bank_changes size busy bank (events.SecondHit block) = number_change block (signals.Block bank)
+bank_changes size busy bank (events.SecondStall block) = number_change block (signals.Block bank)
+bank_changes size busy bank (events.Fill2 second bytes) = number_change second (signals.Block bank)
+bank_changes size busy bank (events.Evict2 second masks bytes) = number_change second (signals.Block bank)
+bank_changes size busy bank event = []
 
-abbrev pub named_by : ℕ → ℕ → ℕ → ℕ → ℕ → Event → List ℕ
-named_by tags busy log bank number (events.Issue op tag size address bytes) =
-    port_changes tags busy log (events.Issue op tag size address bytes)
-named_by tags busy log bank number (events.Reply tag size bytes) =
-    port_changes tags busy log (events.Reply tag size bytes)
-named_by tags busy log bank number events.Fence = []
-named_by tags busy log bank number event = number_change number (signals.Number bank) ++ bank_changes bank event
+abbrev pub named_by : View → List BusyTag → ℕ → ℕ → ℕ → Event → List ℕ
+named_by view busy log bank number (events.Issue op tag size address bytes) =
+    port_changes view.tags (outstanding busy log) log (events.Issue op tag size address bytes)
+named_by view busy log bank number (events.Reply tag size bytes) =
+    port_changes view.tags (outstanding busy log) log (events.Reply tag size bytes)
+named_by view busy log bank number events.Fence = []
+named_by view busy log bank number event =
+    number_change number (signals.Number bank) ++ bank_changes view.block busy bank event
 
--- all that a record changes, where so many tags of its port are busy then
-abbrev pub record_changes : ℕ → ℕ → Record → List ℕ
-record_changes tags busy r = text_change (word_of r.event) (event_signal r.log r.bank r.event)
-    ++ named_by tags busy r.log r.bank r.number r.event
+-- all that a record changes, where these tags are busy after it
+abbrev pub record_changes : View → List BusyTag → Record → List ℕ
+record_changes view busy r = text_change (word_of r.event) (event_signal r.log r.bank r.event)
+    ++ named_by view busy r.log r.bank r.number r.event
 
 -- ---- the registers that it changes, of which so many of each level have signals
 
@@ -213,29 +221,43 @@ standing view place busy level1 level2 flows =
     ++ standing_counts view.banks flows))
     else []
 
-abbrev pub rule_named : Option Rule → List ℕ
-rule_named (Some rule) = text_change (rule_text rule) signals.Rule
-rule_named None = []
+-- from the record at fault on, with the rule that it breaks
+abbrev pub fault_named : Rule → List ℕ
+fault_named rule = bit_change true signals.Fault ++ text_change (rule_text rule) signals.Rule
 
--- the mark of the record at fault, with the rule that it breaks
+-- the mark of the record at fault
 abbrev pub mark : Option Marker → ℕ → List ℕ
-mark (Some m) place = if place == m.place then bit_change true signals.Fault ++ rule_named m.rule else []
+mark (Some m) place = if place == m.place then fault_named m.rule else []
 mark None place = []
+
+-- so many places are a page
+abbrev pub page : ℕ
+page = 32
+
+-- The wave ends a page behind the record at fault, so that the fault can stand at the left of a screen.
+abbrev pub page_behind : Option Marker → ℕ → List ℕ
+page_behind (Some m) place = if place == m.place then time (min (place + page) (2 ^ 64 - 1)) (codes "0") else []
+page_behind None place = []
+
+-- The time of the first record that is shown stands in the head.
+abbrev pub begin_time : View → ℕ → List ℕ
+begin_time view place = if place == view.from then [] else time place (codes "0")
 
 -- A record begins at its place, with what is told of its time, where these registers of each level are held before it.
 abbrev pub beginning : View → ℕ → List ℕ → List HeldRegister → List HeldRegister → Record → List ℕ
 beginning view place told level1 level2 r =
-    time place (codes "0") ++ (told ++ fill_changes view level1 level2 r.bank r.event)
+    begin_time view place ++ (told ++ fill_changes view level1 level2 r.bank r.event)
 
 -- The rest of it, where these tags are busy, these registers are held and this goes between the levels after it. It
 -- has one nanosecond, and its word is taken away before the next one.
 abbrev pub moment : View → ℕ → List BusyTag → List HeldRegister → List HeldRegister → Flows → Record → List ℕ
 moment view place busy level1 level2 flows r =
     standing view place busy level1 level2 flows ++ (mark view.marker place
-    ++ (record_changes view.tags (outstanding busy r.log) r
+    ++ (record_changes view busy r
     ++ (register_changes view level1 level2 r.bank r.event
     ++ (traffic_changes r.bank (counts_of (flow_at flows.banks r.bank)) r.event
-    ++ (time place (codes "9") ++ text_change [] (event_signal r.log r.bank r.event))))))
+    ++ (time place (codes "9") ++ (text_change [] (event_signal r.log r.bank r.event)
+    ++ page_behind view.marker place))))))
 
 abbrev pub is_shown : View → ℕ → Bool
 is_shown view place = nat_le view.from place && nat_le place view.to

@@ -58,8 +58,8 @@ impl fmt::Display for NumberChange {
 
 /// A signal has no number from now on.
 #[derive(Clone, Copy)]
-struct AbsenceChange {
-    signal: Signal,
+pub struct AbsenceChange {
+    pub signal: Signal,
 }
 
 impl fmt::Display for AbsenceChange {

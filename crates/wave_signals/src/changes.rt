@@ -1,11 +1,14 @@
 //! What a record changes.
 
 ghost use Rattle.std.specs.Prelude.{◌≡◌, Some};
-ghost use Rattle.wave_signals.specs.Wave.{port_changes, request_changes, bank_changes, record_changes};
+ghost use Rattle.wave_signals.specs.Wave.{port_changes, block_change, request_changes, bank_changes, record_changes};
 
-use crate::change::{BusyChange, NumberChange, TextChange};
+use crate::busy::{BusyTag, outstanding};
+use crate::change::{AbsenceChange, BusyChange, NumberChange, TextChange};
 use crate::event::{event_signal, word_of};
+use crate::registers::block_requested;
 use crate::signal::Signal;
+use crate::view::View;
 use lf_rules::{Event, Record};
 use std::fmt;
 
@@ -58,40 +61,82 @@ impl fmt::Display for PortChanges<'_> {
     }
 }
 
-/// The request that a bank's record names.
+/// The block of a request, where it is known.
 #[derive(Clone, Copy)]
-struct RequestChanges {
+struct BlockChange {
+    bank: u8,
+    block: Option<u64>,
+}
+
+impl fmt::Display for BlockChange {
+    ghost output = { λ c. Some (block_change c.bank c.block) };
+
+    fn fmt<W: fmt::Write>(&self, f: &mut fmt::Formatter<W>) -> fmt::Result {
+        let signal = Signal::Block { bank: self.bank };
+        let Some(block) = self.block else {
+            let absent = AbsenceChange { signal };
+            return write!(f, "{absent}");
+        };
+        let block = NumberChange::new(block, signal);
+        write!(f, "{block}")
+    }
+}
+
+/// The request that a bank's record names, and its block.
+#[derive(Clone, Copy)]
+struct RequestChanges<'a> {
+    size: u32,
+    busy: &'a [BusyTag],
     bank: u8,
     port: u8,
     tag: u8,
 }
 
-impl fmt::Display for RequestChanges {
-    ghost output = { λ c. Some (request_changes c.bank c.port c.tag) };
+impl fmt::Display for RequestChanges<'_> {
+    ghost output = { λ c. Some (request_changes c.size c.busy.now c.bank c.port c.tag) };
 
     fn fmt<W: fmt::Write>(&self, f: &mut fmt::Formatter<W>) -> fmt::Result {
-        let RequestChanges { bank, port, tag } = *self;
+        let RequestChanges {
+            size,
+            busy,
+            bank,
+            port,
+            tag,
+        } = *self;
+        let block = BlockChange {
+            bank,
+            block: block_requested(size, busy, port, tag),
+        };
         let port = NumberChange::new(u64::from(port), Signal::Requester { bank });
         let tag = NumberChange::new(u64::from(tag), Signal::BankTag { bank });
-        write!(f, "{port}{tag}")
+        write!(f, "{port}{tag}{block}")
     }
 }
 
 /// The values that a record gives its bank, beside its number.
 #[derive(Clone, Copy)]
 struct BankChanges<'a> {
+    size: u32,
+    busy: &'a [BusyTag],
     bank: u8,
     event: &'a Event,
 }
 
 impl fmt::Display for BankChanges<'_> {
-    ghost output = { λ c. Some (bank_changes c.bank c.event.now) };
+    ghost output = { λ c. Some (bank_changes c.size c.busy.now c.bank c.event.now) };
 
     fn fmt<W: fmt::Write>(&self, f: &mut fmt::Formatter<W>) -> fmt::Result {
-        let BankChanges { bank, event } = *self;
+        let BankChanges {
+            size,
+            busy,
+            bank,
+            event,
+        } = *self;
         match event {
             Event::Hit { port, tag } | Event::Stall { port, tag } => {
                 let request = RequestChanges {
+                    size,
+                    busy,
                     bank,
                     port: *port,
                     tag: *tag,
@@ -109,6 +154,8 @@ impl fmt::Display for BankChanges<'_> {
                 register,
             } => {
                 let request = RequestChanges {
+                    size,
+                    busy,
                     bank,
                     port: *port,
                     tag: *tag,
@@ -138,14 +185,14 @@ impl fmt::Display for BankChanges<'_> {
 /// All that a record changes.
 #[derive(Clone, Copy)]
 pub struct RecordChanges<'a> {
-    pub tags: u16,
-    /// How many tags of its port are busy then.
-    pub outstanding: u64,
+    pub view: &'a View,
+    /// The tags that are busy then.
+    pub busy: &'a [BusyTag],
     pub item: &'a Record,
 }
 
 impl fmt::Display for RecordChanges<'_> {
-    ghost output = { λ c. Some (record_changes c.tags c.outstanding c.item.now) };
+    ghost output = { λ c. Some (record_changes c.view.now c.busy.now c.item.now) };
 
     fn fmt<W: fmt::Write>(&self, f: &mut fmt::Formatter<W>) -> fmt::Result {
         let Record {
@@ -161,8 +208,8 @@ impl fmt::Display for RecordChanges<'_> {
         match event {
             Event::Issue { .. } | Event::Reply { .. } | Event::Fence => {
                 let named = PortChanges {
-                    tags: self.tags,
-                    outstanding: self.outstanding,
+                    tags: self.view.tags,
+                    outstanding: outstanding(self.busy, *log),
                     port: *log,
                     event,
                 };
@@ -171,7 +218,12 @@ impl fmt::Display for RecordChanges<'_> {
             _ => {
                 let bank = *bank;
                 let number = NumberChange::new(u64::from(*number), Signal::Number { bank });
-                let named = BankChanges { bank, event };
+                let named = BankChanges {
+                    size: self.view.block,
+                    busy: self.busy,
+                    bank,
+                    event,
+                };
                 write!(f, "{word}{number}{named}")
             }
         }

@@ -3,19 +3,19 @@
 ghost use Rattle.std.specs.Prelude.{◌≡◌, Some};
 ghost use Rattle.wave_signals.specs.Head.{scope_begin, scope_end, port_scope, port_scopes, bank_scope, bank_scopes};
 ghost use Rattle.wave_signals.specs.Head.{scopes};
-ghost use Rattle.wave_signals.specs.Head.{tag_starts, port_start, port_starts, bank_starts, start, head_text};
+ghost use Rattle.wave_signals.specs.Head.{tag_starts, port_start, port_starts, bank_starts, fault_start, start};
 ghost use Rattle.wave_signals.specs.Head.{port_values, bank_values, register_values, traffic_values};
 ghost use Rattle.wave_signals.specs.Head.{held_variable, targets_variable, register_variable, register_variables};
 ghost use Rattle.wave_signals.specs.Head.{no_counts, register_starts, bank_start};
-ghost use Rattle.wave_signals.specs.Head.{tag_variable, tag_variables, time_variable, time_start};
+ghost use Rattle.wave_signals.specs.Head.{tag_variable, tag_variables, time_variable, time_start, head_text};
 
 use crate::change::{BitChange, FreeChange, NumberChange, TextChange};
-use crate::moment::Time;
+use crate::moment::{FaultNamed, Time};
 use crate::registers::Level;
 use crate::signal::Signal;
 use crate::traffic_changes::AllCounts;
 use crate::variable::{NumberVariable, TextVariable};
-use crate::view::View;
+use crate::view::{Marker, View};
 use std::fmt;
 use wave_traffic::Counts;
 
@@ -699,6 +699,34 @@ impl fmt::Display for TimeStart {
     }
 }
 
+/// The fault, where the record at fault is before the first one that is shown.
+#[derive(Clone, Copy)]
+struct FaultStart<'a> {
+    view: &'a View,
+}
+
+impl fmt::Display for FaultStart<'_> {
+    ghost output = { λ s. Some (fault_start s.view.now.marker s.view.now.from) };
+
+    fn fmt<W: fmt::Write>(&self, f: &mut fmt::Formatter<W>) -> fmt::Result {
+        if let Some(Marker { place, rule }) = self.view.marker {
+            if place < self.view.from {
+                let named = FaultNamed { rule };
+                return write!(f, "{named}");
+            }
+        }
+        let fine = BitChange {
+            up: false,
+            signal: Signal::Fault,
+        };
+        let rule = TextChange {
+            text: "",
+            signal: Signal::Rule,
+        };
+        write!(f, "{fine}{rule}")
+    }
+}
+
 /// The values before the first record that is shown.
 #[derive(Clone, Copy)]
 struct Start<'a> {
@@ -717,14 +745,7 @@ impl fmt::Display for Start<'_> {
             tenth: "0",
         };
         let time = TimeStart { shown: self.times };
-        let fine = BitChange {
-            up: false,
-            signal: Signal::Fault,
-        };
-        let rule = TextChange {
-            text: "",
-            signal: Signal::Rule,
-        };
+        let fault = FaultStart { view: self.view };
         let ports = PortStarts {
             tags: self.view.tags,
             ports: self.ports,
@@ -733,10 +754,7 @@ impl fmt::Display for Start<'_> {
             view: self.view,
             banks: self.banks,
         };
-        write!(
-            f,
-            "{begin}$dumpvars\n{time}{fine}{rule}{ports}{banks}$end\n"
-        )
+        write!(f, "{begin}$dumpvars\n{time}{fault}{ports}{banks}$end\n")
     }
 }
 

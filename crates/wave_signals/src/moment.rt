@@ -2,8 +2,8 @@
 
 ghost use Rattle.std.specs.Prelude.{Some};
 ghost use Rattle.wave_signals.specs.Times.{told_time};
-ghost use Rattle.wave_signals.specs.Wave.{time, standing_tag, standing_tags, standing, rule_named, mark, beginning};
-ghost use Rattle.wave_signals.specs.Wave.{moment};
+ghost use Rattle.wave_signals.specs.Wave.{time, standing_tag, standing_tags, standing, fault_named, mark, beginning};
+ghost use Rattle.wave_signals.specs.Wave.{begin_time, page_behind, moment};
 
 use crate::busy::{BusyTag, outstanding};
 use crate::change::{BitChange, BusyChange, NumberChange, TextChange};
@@ -18,6 +18,9 @@ use crate::view::{Marker, View};
 use lf_rules::{Record, Rule};
 use std::fmt;
 use wave_traffic::Traffic;
+
+/// So many places are a page.
+const PAGE: u64 = 32;
 
 /// A time, in nanoseconds and a tenth of one.
 #[derive(Clone, Copy)]
@@ -124,21 +127,23 @@ impl fmt::Display for Standing<'_> {
     }
 }
 
-/// The rule that the record at fault breaks.
+/// The record at fault has come, which breaks this rule.
 #[derive(Clone, Copy)]
-struct RuleNamed {
-    rule: Option<Rule>,
+pub struct FaultNamed {
+    pub rule: Rule,
 }
 
-impl fmt::Display for RuleNamed {
-    ghost output = { λ n. Some (rule_named n.rule) };
+impl fmt::Display for FaultNamed {
+    ghost output = { λ n. Some (fault_named n.rule) };
 
     fn fmt<W: fmt::Write>(&self, f: &mut fmt::Formatter<W>) -> fmt::Result {
-        let Some(rule) = self.rule else {
-            return Ok(());
+        let rule = self.rule;
+        let fault = BitChange {
+            up: true,
+            signal: Signal::Fault,
         };
         let signal = Signal::Rule;
-        write!(f, "s{rule} {signal}\n")
+        write!(f, "{fault}s{rule} {signal}\n")
     }
 }
 
@@ -157,15 +162,57 @@ impl fmt::Display for Mark {
             return Ok(());
         };
         if self.place == place {
-            let fault = BitChange {
-                up: true,
-                signal: Signal::Fault,
-            };
-            let named = RuleNamed { rule };
-            write!(f, "{fault}{named}")
+            let named = FaultNamed { rule };
+            write!(f, "{named}")
         } else {
             Ok(())
         }
+    }
+}
+
+/// The end of the wave, a page behind the record at fault.
+#[derive(Clone, Copy)]
+struct PageBehind {
+    marker: Option<Marker>,
+    place: u64,
+}
+
+impl fmt::Display for PageBehind {
+    ghost output = { λ p. Some (page_behind p.marker p.place) };
+
+    fn fmt<W: fmt::Write>(&self, f: &mut fmt::Formatter<W>) -> fmt::Result {
+        let Some(Marker { place, .. }) = self.marker else {
+            return Ok(());
+        };
+        if self.place == place {
+            let end = Time {
+                place: place.saturating_add(PAGE),
+                tenth: "0",
+            };
+            write!(f, "{end}")
+        } else {
+            Ok(())
+        }
+    }
+}
+
+/// The time at which a record begins. That of the first record that is shown stands in the head.
+#[derive(Clone, Copy)]
+struct BeginTime<'a> {
+    view: &'a View,
+    place: u64,
+}
+
+impl fmt::Display for BeginTime<'_> {
+    ghost output = { λ b. Some (begin_time b.view.now b.place) };
+
+    fn fmt<W: fmt::Write>(&self, f: &mut fmt::Formatter<W>) -> fmt::Result {
+        let place = self.place;
+        if place == self.view.from {
+            return Ok(());
+        }
+        let begin = Time { place, tenth: "0" };
+        write!(f, "{begin}")
     }
 }
 
@@ -193,7 +240,7 @@ impl fmt::Display for Beginning<'_> {
             level2,
             item,
         } = *self;
-        let begin = Time { place, tenth: "0" };
+        let begin = BeginTime { view, place };
         let freed = FillChanges {
             view,
             level1,
@@ -243,11 +290,7 @@ impl fmt::Display for Moment<'_> {
             marker: view.marker,
             place,
         };
-        let changes = RecordChanges {
-            tags: view.tags,
-            outstanding: outstanding(busy, item.log),
-            item,
-        };
+        let changes = RecordChanges { view, busy, item };
         let registers = RegisterChanges {
             view,
             level1,
@@ -263,9 +306,13 @@ impl fmt::Display for Moment<'_> {
             text: "",
             signal: event_signal(item),
         };
+        let page = PageBehind {
+            marker: view.marker,
+            place,
+        };
         write!(
             f,
-            "{standing}{mark}{changes}{registers}{counts}{end}{cleared}"
+            "{standing}{mark}{changes}{registers}{counts}{end}{cleared}{page}"
         )
     }
 }

@@ -2,7 +2,7 @@
 
 ghost use Rattle.std.specs.Prelude.{◌≡◌, ◌==◌, ◌++◌, ◌∷◌, [], filter, OnOk};
 ghost use Rattle.std.specs.List.{find};
-ghost use Rattle.wave_signals.specs.Registers.{block_within, is_tag, block_missed, is_register, is_other_register};
+ghost use Rattle.wave_signals.specs.Registers.{block_within, is_tag, block_requested, is_register, is_other_register};
 ghost use Rattle.wave_signals.specs.Registers.{register_of, one_more, held_for, taken_for, joined_for};
 ghost use Rattle.wave_signals.specs.Registers.{is_of_block, is_of_other_block, filled, in_use, level1_after};
 ghost use Rattle.wave_signals.specs.Registers.{level2_after};
@@ -98,9 +98,9 @@ fn outstanding_with(busy: &[BusyTag], port: u8, tag: u8) -> Option<BusyTag>
     busy.iter().copied().find(|entry| is_tag(entry, port, tag))
 }
 
-/// The block that it misses.
-fn block_missed(size: u32, busy: &[BusyTag], port: u8, tag: u8) -> Option<u64>
-    ensures { result ≡ block_missed size busy.now port tag }
+/// The block that it asks for.
+pub(crate) fn block_requested(size: u32, busy: &[BusyTag], port: u8, tag: u8) -> Option<u64>
+    ensures { result ≡ block_requested size busy.now port tag }
 {
     match outstanding_with(busy, port, tag) {
         Some(request) => block_within(size, request.address),
@@ -185,7 +185,7 @@ pub(crate) fn apply_level1(
             tag,
             register,
         } => {
-            let block = block_missed(size, busy, *port, *tag);
+            let block = block_requested(size, busy, *port, *tag);
             take(held, block, item.bank, *register)
         }
         Event::Merge {
@@ -193,7 +193,7 @@ pub(crate) fn apply_level1(
             tag,
             register,
         } => {
-            let block = block_missed(size, busy, *port, *tag);
+            let block = block_requested(size, busy, *port, *tag);
             join(held, block, item.bank, *register)
         }
         Event::Fill1 { block, .. } => {

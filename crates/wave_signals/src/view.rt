@@ -15,8 +15,8 @@ const MOST_REGISTERS: u16 = 64;
 pub struct Marker {
     /// Its place.
     pub place: u64,
-    /// The rule, where the fault is one of a rule.
-    pub rule: Option<Rule>,
+    /// The rule that it breaks.
+    pub rule: Rule,
 }
 
 /// What a wave shows. A record's place is the number of records that come before it in the order of the wave.

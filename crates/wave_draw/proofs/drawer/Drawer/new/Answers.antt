@@ -1,7 +1,7 @@
 use Rattle.std.proofs.Common.{[], refl, sym, ap, ◌∙◌}
 use Rattle.lf_codec.specs.Reading.{Reading}
 use Rattle.wave_signals.specs.Wave.{undrawn, drawn_after}
-use Rattle.wave_draw.proofs.Ordered.{none_drawn}
+use Rattle.wave_order.proofs.Ordered.{none_drawn}
 use Rattle.wave_draw.proofs.drawer.Drawer.new.Goals as goal
 
 pub returns : goal.returns

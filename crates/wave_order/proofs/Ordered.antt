@@ -6,7 +6,7 @@ use Rattle.std.proofs.lemmas.Bool.{cases_Bool, cond-true, cond-false}
 use Rattle.std.proofs.lemmas.List.Elements.{filter-append}
 use Rattle.lf_rules.specs.declared.event.Record.{Record}
 use Rattle.lf_rules.specs.Run.{of_log}
-use Rattle.wave_draw.specs.Ordered.{without_next, first_before, in_order, others_or_all, left_by, drawn_of}
+use Rattle.wave_order.specs.Ordered.{without_next, first_before, in_order, others_or_all, left_by, drawn_of}
 
 -- ---- the next record of a log
 
@@ -78,7 +78,7 @@ without-append log (r ∷ rs) ys x rest some =
 
 -- ---- more records
 
-either : (xs : List Record) → (xs ≡ []) ⊎ ((x : Record) × (rest : List Record) × (xs ≡ x ∷ rest))
+pub either : (xs : List Record) → (xs ≡ []) ⊎ ((x : Record) × (rest : List Record) × (xs ≡ x ∷ rest))
 either [] = inl refl
 either (x ∷ rest) = inr (x, rest, refl)
 

@@ -1,0 +1,4 @@
+pub mod Coming
+pub mod Entries
+pub mod Going
+pub mod Ordered

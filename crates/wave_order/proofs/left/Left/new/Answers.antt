@@ -1,0 +1,13 @@
+use Rattle.std.proofs.Common.{ℕ, length, ap, arith}
+use Rattle.std.proofs.lemmas.List.{length-replicate}
+use Rattle.wave_order.proofs.Entries.{no_log}
+use Rattle.wave_order.proofs.Going.{zeros}
+use Rattle.wave_order.proofs.left.Left.new.Goals as goal
+
+pub returns : goal.returns
+returns c = record {
+  few = omega (arith, ap length c.new.ensures.items);
+  sized = length-replicate {A = ℕ} 256 0;
+  each = no_log c.new.result.items c.new.ensures.items;
+  next = λ bank lt. zeros 256 bank;
+}

@@ -1,0 +1,5 @@
+-- What callers read: the records in an order, and the order of a no.
+pub mod OrderTo
+pub mod Ordered
+-- For the contracts of the crate: the records that are left.
+pub mod Left

@@ -1,0 +1,47 @@
+//! The order of a no.
+
+ghost use Rattle.std.specs.Prelude.{◌≡◌, List, [], IfOk};
+ghost use Rattle.lf_rules.specs.declared.event.Record.{Record};
+ghost use Rattle.wave_order.specs.Left.{HasLeft};
+ghost use Rattle.wave_order.specs.OrderTo.{IsOrderTo};
+
+use crate::left::Left;
+use crate::sought::Sought;
+use lf_rules::NoMemory;
+use std::alloc::Global;
+
+/// An order of records that goes as far as they do, or to the one that is sought.
+#[derive(Drop)]
+pub struct Front {
+    /// The log whose next record comes at each place.
+    pub logs: Vec<u8>,
+    /// The last one is the one that is sought.
+    pub reached: bool,
+}
+
+/// The order of these records: the next one is always that of the lowest log whose next record may come. It ends with
+/// the record that is sought, or where none may come.
+pub fn order_to(alloc: Global, left: Left, sought: Sought) -> Result<Front, NoMemory>
+    ensures { (records : List Record) → HasLeft left [] records →
+        IfOk result (λ front. IsOrderTo sought records front.logs.items front.reached) }
+{
+    let mut left = left;
+    let mut logs = Vec::new(alloc);
+    let mut before = 0;
+    while let Some(entry) = left.take() {
+        logs.push(entry.log)?;
+        if sought.is(before, entry) {
+            return Ok(Front {
+                logs,
+                reached: true,
+            });
+        }
+        if sought.counts(entry) {
+            before += 1;
+        }
+    }
+    Ok(Front {
+        logs,
+        reached: false,
+    })
+}
