@@ -132,8 +132,8 @@ fn refuse_read<T: Print + Eprint>(rt: &T, out: &str, why: ViewFault) -> io::Resu
     }
 }
 
-/// Writes the wave of the trace, of which the order may name a part alone. A trace that is none any more, or is not that
-/// of the order, was changed while it was read.
+/// Writes the wave of the trace, of which the order may name a part alone. A trace that is none any more, or is not
+/// that of the order, was changed while it was read.
 fn write_wave<T: AllocGlobal, R: Read + Drop, W: Write + Drop>(
     rt: &T,
     drawing: Drawing,

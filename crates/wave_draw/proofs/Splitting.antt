@@ -1,11 +1,9 @@
 -- What one more piece adds to the records that were read.
 use Rattle.std.proofs.Common.{◌≡◌, ℕ, List, [], ◌++◌, sym, ap, subst}
-use Rattle.lf_rules.specs.declared.event.Record.{Record}
 use Rattle.lf_codec.specs.declared.reader.Reader.{Reader}
 use Rattle.lf_codec.specs.Reader.{HasRead}
 use Rattle.lf_codec.specs.Reading.{Reading, reading_of}
 use Rattle.text_dump.proofs.Pieces.{all_taken}
-use Rattle.wave_order.specs.declared.left.Left.{Left}
 use Rattle.wave_order.specs.Left.{HasLeft}
 use Rattle.wave_draw.specs.declared.ordering.Split.{Split}
 use Rattle.wave_draw.specs.Ordering.{IsSplit}

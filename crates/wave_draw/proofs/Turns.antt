@@ -63,7 +63,8 @@ module _ (times : Option Times) (order : Order) (wave : Drawn) (text : List ℕ)
 
   some_left : ¬ (left_by order.logs.items records ≡ [])
   some_left none = elim come.waiting [
-    | inl are ↦ past.one_waits (all_empty order.waiting.logs.items (subst (Interleaves (queued order.waiting)) none are))
+    | inl are ↦ past.one_waits (all_empty order.waiting.logs.items
+        (subst (Interleaves (queued order.waiting)) none are))
     | inr before ↦ before.1 none
   ]
 

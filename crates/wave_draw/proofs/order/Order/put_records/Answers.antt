@@ -12,8 +12,8 @@ returns-clause-drawn c records come =
     let kept = c.in_ok-keep.ensures in
     let more = c.args.reader.now.records in
     let isnt : ¬ IsPast old = λ past.
-        let is : c.is_past.result ≡ true = c.is_past.ensures.1 past in
-        let bad : true ≡ false = sym is ∙ c.if-is_past.false in cc in
+    let is : c.is_past.result ≡ true = c.is_past.ensures.1 past in
+    let bad : true ≡ false = sym is ∙ c.if-is_past.false in cc in
     on_ok_weaker c.put_due.result
     (draws_more c.args.times.now old c.keep.new.self c.put_due.new.self _ _ _ _ records more come
     (ap (λ (o : Order). o.logs) kept.rest) (ap (λ (o : Order). o.next) kept.rest) c.put_due.ensures.logs)
