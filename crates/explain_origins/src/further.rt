@@ -325,8 +325,8 @@ fn records_in(
     Ok(all)
 }
 
-/// The records of each of these parts.
-fn all_of(
+/// The records of each of these parts, of those at the places before.
+pub fn origins_of_all(
     alloc: Global,
     shape: &Shape,
     records: &Packed,
@@ -362,5 +362,5 @@ pub fn further_of(
         broken.entry.free broken.entry.address broken.entry.value broken.entry.item.now further.items) }
 {
     let parts = further_parts(alloc, shape, broken)?;
-    all_of(alloc, shape, records, before, &parts)
+    origins_of_all(alloc, shape, records, before, &parts)
 }

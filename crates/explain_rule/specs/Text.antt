@@ -11,10 +11,12 @@ use Rattle.explain_origins.specs.Text as explain_origins
 use Rattle.explain_rule.specs.declared.explanation.Explanation.{Explanation}
 use Rattle.explain_history.specs.Touching.{record_at}
 use Rattle.explain_rule.specs.Carried.{carried_text}
+use Rattle.explain_rule.specs.Field.{field_text}
 use Rattle.explain_rule.specs.Limit.{limit_text, free_text}
 use Rattle.explain_rule.specs.Sentence.{sentence}
 use Rattle.explain_rule.specs.State.{state_text}
 use Rattle.explain_rule.specs.Taken.{taken_text}
+use Rattle.explain_rule.specs.Wanted.{wanted_text}
 
 -- what the rule asks
 abbrev pub asked_text : Rule → List ℕ
@@ -38,7 +40,8 @@ further_text rs marks further = flat_map (explain_origins.origins_text rs marks)
 abbrev pub fault_text : List Record → List Beside → Explanation → List ℕ
 fault_text rs marks why =
     line_at rs marks why.history.place ++ asked_text why.rule ++ limit_text why.limit ++ free_text why.free
-    ++ taken_text why.taken ++ carried_text (record_at rs why.history.place) why.broken
+    ++ taken_text why.taken ++ field_text why.field ++ carried_text (record_at rs why.history.place) why.broken
+    ++ wanted_text (record_at rs why.history.place) why.wanted
 
 -- that, what the bank has of its blocks, the records that the state of the rule comes from, those that are told beside
 -- them, and the records before
