@@ -17,7 +17,6 @@ use Rattle.lf_codec.specs.Laws.{AreBytes, FaultsSoFarAreNotTruncated, FaultsStan
 use Rattle.lf_codec.specs.Laws.{WhatIsReadFits}
 use Rattle.lf_codec.specs.Layout.{u32_bytes, record_bytes, fixed_bytes, data_of, kind_of}
 use Rattle.lf_codec.specs.Lengths.{bytes_len}
-use Rattle.lf_codec.specs.Reader.{HasRead}
 use Rattle.lf_codec.specs.Reading.{Reading, reading_of, header_of, trace_fault, fault_so_far}
 use Rattle.lf_codec.specs.Sound.{IsInRange}
 use Rattle.lf_codec.specs.Trace.{FitsHeader, FitsIn, FitsTrace}
@@ -27,6 +26,7 @@ use Rattle.lf_verdict.proofs.Lengths.{first_offset_is}
 use Rattle.lf_verdict.specs.Breaking.{first_offset}
 use Rattle.explain_why.specs.declared.packing.Packing.{Packing}
 use Rattle.explain_why.specs.Packing.{HasMemory, IsPackingSoFar}
+use Rattle.explain_why.specs.Taken.{HasTakenAll}
 
 -- ---- the bytes before a fault
 
@@ -121,32 +121,29 @@ ends_below h memory records fits =
 -- ---- what was packed
 
 -- What a reader gave is what has been read, where nothing is left.
-pub packed : WhatIsReadFits → (bytes : List ℕ) → (has : HasMemory bytes) → (r : Reading) (memory : List (ℕ × Bytes))
-    (records : List Record) → HasRead r bytes memory records → r.memory ≡ [] → r.records ≡ [] → (packing : Packing)
-    → packing.memory.items ≡ memory → packing.records.records ≡ records
-    → (FitsTrace has.header memory records → packing.start ≡ first_offset has.header memory)
-    → IsPackingSoFar bytes packing
-packed law bytes has r memory records read no_memory no_records packing memory_is records_is starts =
-    let blocks : (reading_of bytes).memory ≡ memory = ap (λ (q : Reading). q.memory) read.same
-    ∙ ap (λ (m : List (ℕ × Bytes)). memory ++ m) no_memory ∙ append-nil memory in
-    let events : (reading_of bytes).records ≡ records = ap (λ (q : Reading). q.records) read.same
-    ∙ ap (λ (rs : List Record). records ++ rs) no_records ∙ append-nil records in
-    let so_far = fits_so_far law bytes read.are_bytes has.header has.read has.whole in
-    let fits : FitsTrace has.header memory records =
-    subst (λ (rs : List Record). FitsTrace has.header memory rs) events
-    (subst (λ (m : List (ℕ × Bytes)). FitsTrace has.header m (reading_of bytes).records) blocks so_far) in
+pub packed : WhatIsReadFits → (bytes : List ℕ) → HasMemory bytes → (h : Header) → header_of bytes ≡ Some h
+    → (r : Reading) (memory : List (ℕ × Bytes)) (records : List Record) → HasTakenAll r bytes memory records
+    → (packing : Packing) → packing.memory.items ≡ memory → packing.records.records ≡ records
+    → (FitsTrace h memory records → packing.start ≡ first_offset h memory) → IsPackingSoFar bytes packing
+packed law bytes has h there r memory records all packing memory_is records_is starts =
+    let blocks : (reading_of bytes).memory ≡ memory = ap (λ (q : Reading). q.memory) all.read.same
+    ∙ ap (λ (m : List (ℕ × Bytes)). memory ++ m) all.no_memory ∙ append-nil memory in
+    let events : (reading_of bytes).records ≡ records = ap (λ (q : Reading). q.records) all.read.same
+    ∙ ap (λ (rs : List Record). records ++ rs) all.no_records ∙ append-nil records in
+    let both : Some has.header ≡ Some h = sym has.read ∙ there in
+    let header_is : has.header ≡ h = cc in
+    let so_far = fits_so_far law bytes all.read.are_bytes h there
+    (has.whole ∙ ap (λ (k : Header). k.memory_count) header_is) in
+    let fits : FitsTrace h memory records =
+    subst (λ (rs : List Record). FitsTrace h memory rs) events
+    (subst (λ (m : List (ℕ × Bytes)). FitsTrace h m (reading_of bytes).records) blocks so_far) in
     record {
-      header = has.header;
-      read = has.read;
+      header = h;
+      read = there;
       memory_is = memory_is ∙ sym blocks;
       records_are = records_is ∙ sym events;
-      fits = subst (λ (rs : List Record). FitsTrace has.header packing.memory.items rs) (sym records_is)
-          (subst (λ (m : List (ℕ × Bytes)). FitsTrace has.header m records) (sym memory_is) fits);
-      first = starts fits ∙ ap (first_offset has.header) (sym memory_is);
-      ends = omega (
-        arith,
-        starts fits,
-        ends_below has.header memory records fits,
-        ap bytes_len records_is,
-      );
+      fits = subst (λ (rs : List Record). FitsTrace h packing.memory.items rs) (sym records_is)
+          (subst (λ (m : List (ℕ × Bytes)). FitsTrace h m records) (sym memory_is) fits);
+      first = starts fits ∙ ap (first_offset h) (sym memory_is);
+      ends = omega (arith, starts fits, ends_below h memory records fits, ap bytes_len records_is);
     }
