@@ -84,21 +84,22 @@ fn free_of(
     let Some(Limit::Registers(count)) = limit else {
         return Ok(None);
     };
-    let (organisation, wanted) = match event {
+    match event {
         Event::Stall { port, tag } => {
             let wanted = Some(destination(shape, *port, *tag));
-            (shape.level1.organisation, wanted)
+            let organisation = shape.level1.organisation;
+            Ok(free_in(records, organisation, wanted, count, origins))
         }
         Event::SecondStall { block } => {
             let part = StatePart::Targets1 {
                 block: u64::from(*block),
             };
             let wanted = register_of(alloc, shape, records, before, part)?;
-            (shape.level2.organisation, wanted)
+            let organisation = shape.level2.organisation;
+            Ok(free_in(records, organisation, wanted, count, origins))
         }
-        _ => return Ok(None),
-    };
-    Ok(free_in(records, organisation, wanted, count, origins))
+        _ => Ok(None),
+    }
 }
 
 /// The same of the record at a place, where its stall is needless.
