@@ -6,7 +6,7 @@ ghost use Rattle.explain_origins.specs.Holding.{register_in, first_register, reg
 
 use crate::events::named_register;
 use crate::parts::StatePart;
-use crate::standing::standing;
+use crate::standing::places_standing;
 use explain_history::{record_at, room};
 use lf_codec::Packed;
 use lf_rules::{NoMemory, Shape};
@@ -46,6 +46,6 @@ pub fn register_of(
     requires { IsShape shape.now }
     ensures { IfOk result (λ register. register ≡ register_of shape.now records.now.records before.now part) }
 {
-    let places = standing(alloc, shape, records, before, part)?;
+    let places = places_standing(alloc, shape, records, before, part)?;
     Ok(first_register(records, &places))
 }

@@ -26,5 +26,5 @@ pub use holding::{register_at, register_of};
 pub use lf_rules::NoMemory;
 pub use origins::{BrokenRule, Origins, origins_of};
 pub use parts::StatePart;
-pub use standing::standing;
+pub use standing::places_standing;
 pub use text::OriginsText;

@@ -3,9 +3,7 @@ use Rattle.std.proofs.Common.{◌≡◌, ℕ, List, Option, Some, length, sym, a
 use Rattle.std.specs.List.{AllByRecursion}
 use Rattle.lf_rules.specs.Address.{flat_memory}
 use Rattle.lf_rules.specs.Fits.{Bytes, Fits}
-use Rattle.lf_rules.specs.declared.event.Record.{Record}
 use Rattle.lf_rules.specs.declared.shape.Shape.{Shape}
-use Rattle.lf_codec.specs.Reading.{reading_of}
 use Rattle.lf_codec.specs.declared.header.Header.{Header}
 use Rattle.explain_lines.specs.Marks.{besides, besides_of}
 use Rattle.lf_verdict.proofs.Traces.{records_fit}

@@ -1,5 +1,5 @@
 -- What broke in the bytes before a fault of the format.
-use Rattle.std.specs.Prelude.{◌≡◌, ◌⊎◌, ℕ, List, [], Option, Some, None}
+use Rattle.std.specs.Prelude.{◌≡◌, ◌⊎◌, ℕ, List, [], ◌++◌, Option, Some, None}
 use Rattle.lf_rules.specs.declared.shape.Shape.{Shape}
 use Rattle.lf_codec.specs.Reading.{reading_of}
 use Rattle.explain_lines.specs.Marks.{besides, besides_of}

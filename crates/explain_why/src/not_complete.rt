@@ -11,7 +11,7 @@ use crate::why::Asked;
 use crate::{Packing, packed_in};
 use explain_history::{last_at_request, places_in_order, waiting_request};
 use explain_lines::{Listing, Marks, RecordLine, RecordLines, marks_of};
-use explain_origins::{Origins, OriginsText, StatePart, origins_of_all, standing};
+use explain_origins::{Origins, OriginsText, StatePart, origins_of_all, places_standing};
 use lf_codec::Packed;
 use lf_rules::{NoMemory, Shape};
 use lf_verdict::Incomplete;
@@ -80,7 +80,7 @@ fn oldest_request(
     ensures inside { IfOk result (λ oldest. oldest < length records.now.records) }
 {
     let places = all_places(alloc, records)?;
-    let waiting = standing(alloc, shape, records, &places, StatePart::Unreplied)?;
+    let waiting = places_standing(alloc, shape, records, &places, StatePart::Unreplied)?;
     Ok(first_or(records, place, &waiting))
 }
 

@@ -3,7 +3,8 @@
 use explain_history::{packed, places_in_order};
 use explain_lines::{Listing, Marks};
 use explain_origins::{
-    BrokenRule, Origins, OriginsText, StatePart, origins_of, origins_of_all, register_of, standing,
+    BrokenRule, Origins, OriginsText, StatePart, origins_of, origins_of_all, places_standing,
+    register_of,
 };
 use lf_codec::Packed;
 use lf_rules::{Level, OrgShape, Rule, Shape};
@@ -111,7 +112,7 @@ fn what_is_left_at_the_end(rt: HostRuntime) -> Result<(), Fail> {
     let records = records(alloc, &SHAPE, &[events])?;
     let packed = packed(alloc, &records).map_err(|_| "out of memory")?;
     let places = places_in_order(alloc, &packed, 0, records.len()).map_err(|_| "out of memory")?;
-    let waiting = standing(alloc, &SHAPE, &packed, &places, StatePart::Unreplied);
+    let waiting = places_standing(alloc, &SHAPE, &packed, &places, StatePart::Unreplied);
     let waiting = waiting.map_err(|_| "out of memory")?;
     assert_eq!(rt; waiting.as_slice(), &[0, 2, 5]);
     let part = StatePart::Targets1 { block: 1 };

@@ -9,7 +9,7 @@ use Rattle.explain_why.proofs.packing.pack_all.Goals as goal
 pub returns : goal.returns
 returns c =
     let bytes = c.args.bytes.now in
-    let begun = c.args.reader.old in
+    let begun = c.args.reader.now in
     let records = c.pack.new.records.records in
     let first = subst (λ (rs : List Record). HasRead (with_records rs begun) [] [] []) (sym c.new-records.ensures)
     c.requires in
