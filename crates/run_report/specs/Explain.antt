@@ -27,10 +27,16 @@ abbrev pub answer_text : Outcome → Option Incomplete → List ℕ
 answer_text outcome (Some found) = codes "no " ++ incomplete_text found
 answer_text outcome None = outcome_text outcome
 
+-- the line of what broke first, or this one where it was no record
+abbrev pub first_text : Option Broken → List ℕ → List ℕ
+first_text (Some (Part part upon)) line = codes "broken " ++ broken_text (Part part upon)
+first_text earliest line = line
+
 -- that line, or of a no where that is asked for the line of what broke first
 abbrev pub headline_text : Bool → Outcome → Option Broken → Option Incomplete → List ℕ
-headline_text true (No fault) (Some (Part part upon)) found = codes "broken " ++ broken_text (Part part upon)
-headline_text first outcome earliest found = answer_text outcome found
+headline_text false outcome earliest found = answer_text outcome found
+headline_text true (No fault) earliest found = first_text earliest (answer_text (No fault) found)
+headline_text true outcome earliest found = answer_text outcome found
 
 -- The text has that line, and after an empty line it tells why.
 pub record TellsBehindLine (shape : Shape) (bytes : List ℕ) (time : Times) (most : ℕ) (first : Bool) (outcome : Outcome)

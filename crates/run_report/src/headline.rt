@@ -1,11 +1,11 @@
 //! The line that an explanation begins with.
 
 ghost use Rattle.std.specs.Prelude.{◌≡◌, Some};
-ghost use Rattle.run_report.specs.Explain.{headline_text};
+ghost use Rattle.run_report.specs.Explain.{answer_text, first_text, headline_text};
 ghost use Rattle.run_report.specs.Headline.{line_text};
 
 use explain_why::Judgement;
-use lf_verdict::{Broken, Outcome};
+use lf_verdict::{Broken, Incomplete, Outcome};
 use run_engine::Line;
 use std::fmt;
 
@@ -29,20 +29,42 @@ impl fmt::Display for Headline<'_> {
     }
 }
 
+/// The line of a request without a reply, or otherwise that of the verdict.
+fn verdict_line(outcome: &Outcome, found: Option<Incomplete>) -> Headline<'_>
+    ensures { line_text result ≡ answer_text outcome.now found }
+{
+    match found {
+        Some(request) => Headline::Verdict(Line::Incomplete(request)),
+        None => Headline::Verdict(Line::Concluded(outcome)),
+    }
+}
+
+/// The line of what broke first, or this one where it was no record.
+fn first_or<'a>(earliest: &'a Option<Broken>, other: Headline<'a>) -> Headline<'a>
+    ensures { line_text result ≡ first_text earliest.now (line_text other.entry) }
+{
+    match earliest {
+        Some(found) => match found {
+            Broken::Part { .. } => Headline::First(found),
+            Broken::Header(_) => other,
+        },
+        None => other,
+    }
+}
+
 /// The line of a judgement: of a no where that is asked for the line of what broke first, otherwise that of a request
 /// without a reply, or that of the verdict.
 pub fn headline_of<'a>(first: bool, judged: &Judgement<'a>) -> Headline<'a>
     ensures { line_text result
         ≡ headline_text first judged.now.outcome.now judged.now.earliest.now judged.now.incomplete }
 {
-    let Judgement {
-        outcome,
-        earliest,
-        incomplete,
-    } = *judged;
-    match (outcome, earliest, incomplete) {
-        (Outcome::No(_), Some(found @ Broken::Part { .. }), _) if first => Headline::First(found),
-        (_, _, Some(request)) => Headline::Verdict(Line::Incomplete(request)),
-        (_, _, None) => Headline::Verdict(Line::Concluded(outcome)),
+    let line = verdict_line(judged.outcome, judged.incomplete);
+    if !first {
+        return line;
+    }
+    match judged.outcome {
+        Outcome::No(_) => first_or(judged.earliest, line),
+        Outcome::Yes { .. } => line,
+        Outcome::Refused(_) => line,
     }
 }
