@@ -69,8 +69,10 @@ Unless --events says otherwise, it then prints at most 5 records before it.
 For a yes it prints what the trace used at most of what the configuration
 has. A configuration that is larger than the design hides faults. With
 --complete, each request of a legal trace must also have a reply, as check
-asks it. The first one without is printed instead, with the last records of
-its bank at its block, so that what it waits for can be seen:
+asks it. The first one without is printed instead, and the oldest one where
+that is another: it stands first in the file. Then come the last records of
+the bank of the oldest at its block, and what that bank has at the end, so
+that what it waits for can be seen:
 
   no incomplete port=0 tag=0
 
@@ -80,6 +82,13 @@ its bank at its block, so that what it waits for can be seen:
   the last records of its bank at its block:
   load port=0 bank=0 number=0 tag=0 size=1 address=0x0 ; at 16
   primary bank=0 number=1 port=0 tag=0 register=0 ; at 36
+
+  the registers of level one that are held at the end:
+  primary bank=0 number=1 port=0 tag=0 register=0 ; at 36
+    of load port=0 bank=0 number=0 tag=0 size=1 address=0x0 ; at 16
+
+and so on for the registers of level two, the blocks that are asked for, those
+that are looked up, and the last events.
 
 For bytes that are not a trace it prints the part that is wrong, its field,
 the value and what is allowed, and then what broke first in the records before
