@@ -1,10 +1,8 @@
 //! The text of an explanation.
 
-ghost use Rattle.std.specs.Prelude.{◌++◌, Some};
+ghost use Rattle.std.specs.Prelude.{Some};
 ghost use Rattle.explain_history.specs.Touching.{record_at};
-ghost use Rattle.explain_rule.specs.Carried.{carried_text};
-ghost use Rattle.explain_rule.specs.Text.{asked_text, before_text, origins_text, further_text};
-ghost use Rattle.explain_rule.specs.Wanted.{wanted_text};
+ghost use Rattle.explain_rule.specs.Text.{asked_text, before_text, origins_text, further_text, carries_text};
 ghost use Rattle.explain_rule.specs.Text.{fault_text, explained_text};
 ghost use Rattle.explain_lines.specs.Marks.{besides};
 
@@ -44,8 +42,7 @@ struct RecordCarries<'a> {
 
 impl fmt::Display for RecordCarries<'_> {
     ghost output = { λ it. Some
-        (carried_text (record_at it.listing.records.now.records it.why.now.history.place) it.why.now.broken
-        ++ wanted_text (record_at it.listing.records.now.records it.why.now.history.place) it.why.now.wanted) };
+        (carries_text (record_at it.listing.records.now.records it.why.now.history.place) it.why.now) };
 
     fn fmt<W: fmt::Write>(&self, f: &mut fmt::Formatter<W>) -> fmt::Result {
         let mut room = room();
