@@ -108,7 +108,7 @@ fn state_at_end(
 }
 
 /// What is told of the oldest request without a reply, where the one at this place has none.
-fn stuck(
+fn stuck_at(
     alloc: Global,
     shape: &Shape,
     records: &Packed,
@@ -149,7 +149,7 @@ pub(crate) fn not_complete(
         oldest,
         at_block,
         state,
-    } = stuck(alloc, shape, &records, place, most)?;
+    } = stuck_at(alloc, shape, &records, place, most)?;
     let marks = marks_of(alloc, &records, start, times)?;
     Ok(NotComplete {
         records,

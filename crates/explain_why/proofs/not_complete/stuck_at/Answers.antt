@@ -1,7 +1,7 @@
 use Rattle.lf_rules.specs.declared.event.Event.TheVariants as events
 use Rattle.lf_rules.specs.declared.event.Record.{Record}
 use Rattle.explain_why.proofs.Incomplete.{is_stuck}
-use Rattle.explain_why.proofs.not_complete.stuck.Goals as goal
+use Rattle.explain_why.proofs.not_complete.stuck_at.Goals as goal
 
 no_record : Record
 no_record = record { log = 0; bank = 0; number = 0; event = events.Fence }
