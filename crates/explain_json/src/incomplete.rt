@@ -8,8 +8,8 @@ use lf_rules::NoMemory;
 use serde_json::{Value, json};
 use std::alloc::Global;
 
-/// The first request without a reply, the oldest one, the last records of its bank at its block, and what its bank has at
-/// the end.
+/// The first request without a reply, the oldest one, the last records of its bank at its block, and what its bank has
+/// at the end.
 pub(crate) fn incomplete_json(alloc: Global, why: &NotComplete) -> Result<Value, NoMemory> {
     let listing = Listing {
         records: &why.records,

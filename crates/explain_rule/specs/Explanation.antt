@@ -54,7 +54,8 @@ pub record ComeFrom (shape : Shape) (rs : List Record) (breach : Breach) (why : 
       why.further.items
 
 -- It tells of the rule, of how many there are of what it is about, of the record that breaks it, of what that has to
--- carry and which blocks it names, of the records before, of what comes from these, and how many targets a register has.
+-- carry and which blocks it names, of the records before, of what comes from these, and of how many targets a register
+-- has.
 pub record IsExplanation (shape : Shape) (memory : List (ℕ × Bytes)) (rs : List Record) (breach : Breach) (most : ℕ)
     (why : Explanation) : Type 0 where
   pub rule : why.rule ≡ rule_of breach

@@ -100,7 +100,8 @@ record_len h r header fits =
       most_data-le h kind range,
     )
 
-records_len : (h : Header) (rs : List Record) → FitsHeader h → AllByRecursion (FitsIn h) rs → bytes_len rs ≤ 300 * length rs
+records_len : (h : Header) (rs : List Record) → FitsHeader h → AllByRecursion (FitsIn h) rs →
+    bytes_len rs ≤ 300 * length rs
 records_len h [] header fit = omega arith
 records_len h (r ∷ rs) header fit = omega (arith, record_len h r header fit.0, records_len h rs header fit.1)
 

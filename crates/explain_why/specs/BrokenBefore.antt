@@ -40,4 +40,5 @@ HasBrokenBefore shape bytes time most None =
 
 abbrev pub broken_before_text : Option BrokenBefore → List ℕ
 broken_before_text None = []
-broken_before_text (Some why) = first_heading (Some why.upon) ++ cause_text why.records.records (besides why.marks) why.cause
+broken_before_text (Some why) =
+    first_heading (Some why.upon) ++ cause_text why.records.records (besides why.marks) why.cause

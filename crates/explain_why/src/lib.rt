@@ -3,7 +3,8 @@
 //! `why_of` finds it: of a no why its fault stands in the trace, and what broke first where that is something else; of
 //! a yes what the trace used at most of what its configuration has, or where complete traces are asked for a request
 //! that has no reply; of bytes that are no trace the field that fails, and what broke first before it; of a trace of
-//! another hierarchy the numbers that differ. `WhyText` is its text. `specs/` says which records are told of, and each text exactly.
+//! another hierarchy the numbers that differ. `WhyText` is its text. `specs/` says which records are told of, and each
+//! text exactly.
 //!
 //! It also reads what stands in the bytes of a trace. `parts_in` and `records_in` read any bytes, as far as these are a
 //! trace. `trace_in` reads a trace, with its header. `packed_in` reads a trace and keeps its records in the form of

@@ -84,8 +84,8 @@ fn oldest_request(
     Ok(first_or(records, place, &waiting))
 }
 
-/// What the bank has at the end: its registers with their targets, the blocks that level one asked for, those that level
-/// two looked up, and the last events.
+/// What the bank has at the end: its registers with their targets, the blocks that level one asked for, those that
+/// level two looked up, and the last events.
 fn state_at_end(
     alloc: Global,
     shape: &Shape,

@@ -137,7 +137,8 @@ fn by_fault(
     })
 }
 
-/// Why the trace in these bytes is not legal: by the fault of the verdict, or where it is asked for by what broke first.
+/// Why the trace in these bytes is not legal: by the fault of the verdict, or where it is asked for by what broke
+/// first.
 pub(crate) fn not_legal(
     alloc: Global,
     shape: &Shape,

@@ -33,8 +33,8 @@ fn first_record_at(header: &Header) -> u64
     16 + u64::from(header.memory_count) * (4 + u64::from(header.block))
 }
 
-/// Reads the bytes, which have no fault, by a reader that has read nothing, and takes what it finds. A record takes about
-/// the room of its bytes.
+/// Reads the bytes, which have no fault, by a reader that has read nothing, and takes what it finds. A record takes
+/// about the room of its bytes.
 fn pack_all(alloc: Global, reader: &mut Reader, bytes: &[u8]) -> Result<(Memory, Packed), NoMemory>
     requires { HasRead reader.old [] [] [] }
     ensures { IfOk result (λ all. HasTakenAll reader.new bytes.now all.0.items all.1.records) }

@@ -26,8 +26,8 @@ use std::alloc::Global;
 /// - of bytes that are no trace, the field that fails, and what it may have; and what broke first before it;
 /// - of a trace of another hierarchy, the numbers that differ.
 ///
-/// A record is told with its time where there is one. Of a refused configuration nothing is told. Where it is asked for,
-/// of a no what broke first is told alone, behind its own line.
+/// A record is told with its time where there is one. Of a refused configuration nothing is told. Where it is asked
+/// for, of a no what broke first is told alone, behind its own line.
 #[derive(Clone, Copy)]
 pub struct Explain<'a> {
     pub asked: Asked<'a>,
