@@ -92,6 +92,6 @@ abbrev pub not_complete_text : NotComplete → List ℕ
 not_complete_text why =
     let rs = why.records.records in
     let marks = besides why.marks in
-    line_at rs marks (Some why.place) ++ codes "  the trace ends without a reply to this request" ++ 10 ∷ []
+    line_at rs marks (Some why.place) ++ (codes "  the trace ends without a reply to this request" ++ 10 ∷ [])
     ++ oldest_text rs marks why.place why.oldest ++ at_block_text rs marks why.at_block.items
     ++ state_text rs marks why.state.items

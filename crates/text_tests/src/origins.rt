@@ -114,7 +114,7 @@ fn what_is_left_at_the_end(rt: HostRuntime) -> Result<(), Fail> {
     let places = places_in_order(alloc, &packed, 0, records.len()).map_err(|_| "out of memory")?;
     let waiting = places_standing(alloc, &SHAPE, &packed, &places, StatePart::Unreplied);
     let waiting = waiting.map_err(|_| "out of memory")?;
-    assert_eq!(rt; waiting.as_slice(), &[0, 2, 5]);
+    assert_eq!(rt; waiting.as_slice(), [0, 2, 5].as_slice());
     let part = StatePart::Targets1 { block: 1 };
     let register = register_of(alloc, &SHAPE, &packed, &places, part);
     assert_eq!(rt; register.map_err(|_| "out of memory")?, Some(1));
