@@ -73,6 +73,11 @@ pub record IsNotComplete (shape : Shape) (bytes : List ℕ) (time : ℕ → ℕ 
 
 -- ---- its text
 
+-- the request that is told
+abbrev pub request_text : List Record → List Beside → ℕ → List ℕ
+request_text rs marks place =
+    line_at rs marks (Some place) ++ codes "  the trace ends without a reply to this request" ++ 10 ∷ []
+
 -- the oldest request, where it is another one
 abbrev pub oldest_text : List Record → List Beside → ℕ → ℕ → List ℕ
 oldest_text rs marks place oldest =
@@ -92,6 +97,5 @@ abbrev pub not_complete_text : NotComplete → List ℕ
 not_complete_text why =
     let rs = why.records.records in
     let marks = besides why.marks in
-    line_at rs marks (Some why.place) ++ (codes "  the trace ends without a reply to this request" ++ 10 ∷ [])
-    ++ oldest_text rs marks why.place why.oldest ++ at_block_text rs marks why.at_block.items
+    request_text rs marks why.place ++ oldest_text rs marks why.place why.oldest ++ at_block_text rs marks why.at_block.items
     ++ state_text rs marks why.state.items

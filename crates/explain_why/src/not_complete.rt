@@ -5,7 +5,7 @@ ghost use Rattle.lf_rules.specs.InRange.{IsShape};
 ghost use Rattle.explain_lines.specs.Marks.{told_by, besides};
 ghost use Rattle.lf_verdict.specs.Incomplete.{IsIncompleteIn};
 ghost use Rattle.explain_why.specs.NotComplete.{all_places, first_or, oldest_of, IsStateAtEnd, IsStuck, IsNotComplete};
-ghost use Rattle.explain_why.specs.NotComplete.{oldest_text, at_block_text, state_text, not_complete_text};
+ghost use Rattle.explain_why.specs.NotComplete.{request_text, oldest_text, at_block_text, state_text, not_complete_text};
 
 use crate::why::Asked;
 use crate::{Packing, packed_in};
@@ -162,6 +162,29 @@ pub(crate) fn not_complete(
     })
 }
 
+/// The request that is told.
+#[derive(Clone, Copy)]
+struct Request<'a> {
+    listing: Listing<'a>,
+    place: usize,
+}
+
+impl fmt::Display for Request<'_> {
+    ghost output = { λ it. Some
+        (request_text it.listing.records.now.records (besides it.listing.marks.now) it.place) };
+
+    fn fmt<W: fmt::Write>(&self, f: &mut fmt::Formatter<W>) -> fmt::Result {
+        let record = RecordLine {
+            listing: self.listing,
+            place: Some(self.place),
+        };
+        write!(
+            f,
+            "{record}  the trace ends without a reply to this request\n"
+        )
+    }
+}
+
 /// The oldest request, where it is another one.
 #[derive(Clone, Copy)]
 struct Oldest<'a> {
@@ -240,9 +263,9 @@ impl fmt::Display for NotComplete {
             records: &self.records,
             marks: &self.marks,
         };
-        let request = RecordLine {
+        let request = Request {
             listing,
-            place: Some(self.place),
+            place: self.place,
         };
         let oldest = Oldest {
             listing,
@@ -257,9 +280,6 @@ impl fmt::Display for NotComplete {
             listing,
             state: &self.state,
         };
-        write!(
-            f,
-            "{request}  the trace ends without a reply to this request\n{oldest}{at_block}{state}"
-        )
+        write!(f, "{request}{oldest}{at_block}{state}")
     }
 }
