@@ -9,7 +9,7 @@ _score() {
   case ${COMP_WORDS[1]} in
     check) options='--workers --complete --list --progress -h --help' valued='--workers' ;;
     stats) options='--progress -h --help' valued='' ;;
-    explain) options='--events --map --complete --json --progress -h --help' valued='--events' files='--map' ;;
+    explain) options='--events --map --complete --first --json --progress -h --help' valued='--events' files='--map' ;;
     cover) options='--dat --progress -h --help' valued='' files='--dat' ;;
     demo) options='-h --help' valued='' ;;
     watch) options='-h --help' valued='' ;;

@@ -22,6 +22,7 @@ complete -c score -n '__fish_seen_subcommand_from stats; and not __fish_seen_sub
 complete -c score -n '__fish_seen_subcommand_from explain; and not __fish_seen_subcommand_from help' -l events -x -d 'How many records before it are printed at most [default: 15]'
 complete -c score -n '__fish_seen_subcommand_from explain; and not __fish_seen_subcommand_from help' -l map -r -F -d 'The times of the records'
 complete -c score -n '__fish_seen_subcommand_from explain; and not __fish_seen_subcommand_from help' -l complete -d 'Also asks for a reply to each request'
+complete -c score -n '__fish_seen_subcommand_from explain; and not __fish_seen_subcommand_from help' -l first -d 'Tells what broke first in the trace alone'
 complete -c score -n '__fish_seen_subcommand_from explain; and not __fish_seen_subcommand_from help' -l json -d 'Prints the answer as JSON'
 complete -c score -n '__fish_seen_subcommand_from explain; and not __fish_seen_subcommand_from help' -l progress -d 'Shows on standard error how far it is'
 complete -c score -n '__fish_seen_subcommand_from explain; and not __fish_seen_subcommand_from help' -s h -l help -d 'Print help'

@@ -61,6 +61,11 @@ def taken_lines(taken: Optional[Object]) -> List[str]:
     return [f"  register={taken['register']} holds the block and has targets={taken['targets']}"]
 
 
+def field_lines(field: Optional[Object]) -> List[str]:
+    """The field of that register that is free."""
+    return [f"  its field for {name}={place} is free" for name, place in (field or {}).items()]
+
+
 def carried(fault: Object) -> List[str]:
     """What the record has to carry and carries."""
     due, found, first = fault["expected"], fault["found"], fault["first_different"]
@@ -123,6 +128,7 @@ def rule_lines(fault: Object) -> List[str]:
         *limit_lines(fault["limit"]),
         *([] if fault["free_register"] is None else [f"  free register={fault['free_register']}"]),
         *taken_lines(fault["taken"]),
+        *field_lines(fault["free_field"]),
         *carried(fault),
         *(line for block in fault["blocks"] for line in block_lines(block)),
         *origins_lines(fault["origins"]),
@@ -179,15 +185,36 @@ def usage_lines(used: Object) -> List[str]:
     return lines + [f"port {port}: tags {share(of['tags'])}" for port, of in enumerate(used["ports"])]
 
 
+def first_lines(answer: Object) -> List[str]:
+    """What broke first, where that is told."""
+    upon, first = answer.get("upon"), answer.get("first")
+    if first is None:
+        return []
+    where = f"log={upon['log']} event={upon['event']} at={upon['offset']}"
+    return ["", f"what broke first in the trace upon {where}:", *fault_lines(first)]
+
+
+def incomplete_lines(incomplete: Object) -> List[str]:
+    """A request without a reply, the oldest one, and what its bank has at the end."""
+    record, oldest, at_block = incomplete["record"], incomplete["oldest"], incomplete["at_block"]
+    return [
+        *line_of(record),
+        "  the trace ends without a reply to this request",
+        *([] if record == oldest else ["", "the oldest request without a reply:", *line_of(oldest)]),
+        *(["", "the last records of its bank at its block:", *lines_of(at_block)] if at_block else []),
+        *(line for part in incomplete["state"] for line in origins_lines(part)),
+    ]
+
+
 def text_of(answer: Object) -> str:
     """The text."""
     lines: List[str] = []
-    if answer["verdict"] == "no":
-        lines = fault_lines(answer["fault"])
-        if answer["first"] is not None:
-            lines += ["", "what broke first in the trace:", *fault_lines(answer["first"])]
+    if "incomplete" in answer:
+        lines = incomplete_lines(answer["incomplete"])
+    elif answer["verdict"] == "no":
+        lines = fault_lines(answer["fault"]) + first_lines(answer)
     elif answer["verdict"] == "yes":
         lines = usage_lines(answer["used"])
     elif "explanation" in answer:
-        lines = answer["explanation"]
+        lines = answer["explanation"] + first_lines(answer)
     return "\n".join([answer["line"], *([""] if lines else []), *lines, ""])

@@ -4,6 +4,7 @@ use crate::Request;
 use crate::argument::{Argument, COMPLETE, CONFIG, MAP, PROGRESS, TRACE, Takes};
 use crate::files::{LEFT_OUT, files_of};
 use clap::ArgMatches;
+use clap::parser::ValueSource;
 
 /// What the help says of `explain`.
 pub const ABOUT: &str = "Judges a trace, and prints why the answer is what it is";
@@ -55,13 +56,23 @@ touches the block of the port's last request with that tag.
 
 If a number is missing or double, explain prints the records beside it, and
 if logs wait for one another, which record waits for which. If something else
-broke earlier in the trace, it prints that last, in the same way.
+broke earlier in the trace, it prints that last, in the same way, with the
+record upon which it broke.
+
+With --first, explain tells what broke first in the trace, and nothing else.
+The first line is then that of watch; see score help watch:
+
+  broken bank=0 number=5 rule=ReplyData upon log=0 event=1 at=112
+
+Unless --events says otherwise, it then prints at most 5 records before it.
 
 For a yes it prints what the trace used at most of what the configuration
 has. A configuration that is larger than the design hides faults. With
 --complete, each request of a legal trace must also have a reply, as check
-asks it. The first one without is printed instead, with the last records of
-its bank at its block, so that what it waits for can be seen:
+asks it. The first one without is printed instead, and the oldest one where
+that is another: it stands first in the file. Then come the last records of
+the bank of the oldest at its block, and what that bank has at the end, so
+that what it waits for can be seen:
 
   no incomplete port=0 tag=0
 
@@ -72,11 +83,17 @@ its bank at its block, so that what it waits for can be seen:
   load port=0 bank=0 number=0 tag=0 size=1 address=0x0 ; at 16
   primary bank=0 number=1 port=0 tag=0 register=0 ; at 36
 
-For bytes
-that are not a trace it prints the part that is wrong, its field, the value
-and what is allowed; for a trace of another hierarchy, each number that
-differs; for a configuration that is refused, what the key may have, and its
-line.
+  the registers of level one that are held at the end:
+  primary bank=0 number=1 port=0 tag=0 register=0 ; at 36
+    of load port=0 bank=0 number=0 tag=0 size=1 address=0x0 ; at 16
+
+and so on for the registers of level two, the blocks that are asked for, those
+that are looked up, and the last events.
+
+For bytes that are not a trace it prints the part that is wrong, its field,
+the value and what is allowed, and then what broke first in the records before
+it; for a trace of another hierarchy, each number that differs; for a
+configuration that is refused, what the key may have, and its line.
 
 With --map FILE each record is printed with its time. FILE is the time map
 that a recorder wrote beside the trace. It has a line for each record: its
@@ -103,6 +120,7 @@ Exit status:
 Examples:
   score explain small.toml run.lfts
   score explain --events 40 small.toml run.lfts
+  score explain --first small.toml run.lfts
   score explain --complete small.toml run.lfts
   score explain --map run.map small.toml run.lfts
   score explain --json small.toml run.lfts | jq .fault.record
@@ -117,6 +135,8 @@ pub struct ExplainOptions<'a> {
     pub map: Option<&'a str>,
     /// Each request has to have a reply.
     pub complete: bool,
+    /// What broke first is told in the place of the fault that `check` names.
+    pub first: bool,
     /// The answer is printed as JSON.
     pub json: bool,
     /// Standard error shows how far the trace is read.
@@ -136,6 +156,13 @@ pub const ARGUMENTS: &[Argument] = &[
     MAP,
     COMPLETE,
     Argument {
+        name: "first",
+        takes: Takes::Nothing,
+        value: "",
+        default: "",
+        help: "Tells what broke first in the trace alone",
+    },
+    Argument {
         name: "json",
         takes: Takes::Nothing,
         value: "",
@@ -145,15 +172,28 @@ pub const ARGUMENTS: &[Argument] = &[
     PROGRESS,
 ];
 
+/// With --first so many records before it are told, unless the words say how many.
+const FEW: u16 = 5;
+
+/// How many records before one that breaks a rule are told.
+fn events_of(matches: &ArgMatches<'_>, first: bool) -> Result<u16, &'static str> {
+    match matches.value_source("events") {
+        Some(ValueSource::DefaultValue) if first => Ok(FEW),
+        _ => matches.get_one::<u16>("events").ok_or(LEFT_OUT),
+    }
+}
+
 pub fn request<'a>(matches: &ArgMatches<'a>) -> Result<Request<'a>, &'static str> {
     let (config, trace) = files_of(matches)?;
+    let first = matches.get_flag("first");
     Ok(Request::Explain {
         config,
         trace,
         options: ExplainOptions {
-            events: matches.get_one::<u16>("events").ok_or(LEFT_OUT)?,
+            events: events_of(matches, first)?,
             map: matches.get_str("map"),
             complete: matches.get_flag("complete"),
+            first,
             json: matches.get_flag("json"),
             progress: matches.get_flag("progress"),
         },

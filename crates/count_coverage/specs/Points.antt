@@ -52,6 +52,31 @@ abbrev pub is_number : ℕ → Option ℕ → Bool
 is_number n None = false
 is_number n (Some m) = m == n
 
+-- Do the records before an event say that it reaches the point?
+abbrev pub is_seen : Shape → BankPoint → Sight → Bool
+is_seen shape points.StallNoRegister seen = lacks_register seen
+is_seen shape points.StallNoEntry seen = is_explicit shape.level1.organisation && lacks_place seen
+is_seen shape points.StallField seen = is_implicit shape.level1.organisation && lacks_place seen
+is_seen shape points.SecondStallNoRegister seen = lacks_register2 seen
+is_seen shape points.SecondStallNoEntry seen = is_explicit shape.level2.organisation && lacks_place2 seen
+is_seen shape points.SecondRefetch seen = is_refetch2 seen
+is_seen shape points.LoadBehindLoad seen = load_behind_load seen
+is_seen shape points.LoadBehindStore seen = load_behind_store seen
+is_seen shape points.StoreBehindLoad seen = store_behind_load seen
+is_seen shape points.StoreBehindStore seen = store_behind_store seen
+is_seen shape points.Refetch seen = is_refetch seen
+is_seen shape points.FillOutOfOrder seen = overtakes seen
+is_seen shape points.FillOverStores seen = is_over_stores seen
+is_seen shape points.EvictionUnderSupply seen = is_under_supply seen
+is_seen shape points.EvictionOfOtherSet seen = is_of_other_set seen
+is_seen shape points.SecondEvictionUnderSupply seen = is_under_supply2 seen
+is_seen shape points.SecondEvictionOfSameSet seen = is_of_same_set2 seen
+is_seen shape points.EvictionBesidePinned seen = is_beside_pinned seen
+is_seen shape points.EvictionOfLastUnpinned seen = is_last_unpinned shape.level2.ways seen
+is_seen shape points.SecondPrimaryBesidePinned seen = is_at_pinned seen
+is_seen shape points.SecondPrimaryAllPinned seen = is_at_all_pinned shape.level2.ways seen
+is_seen shape _ seen = false
+
 -- Does the event reach the point, where so many registers of level one are held before it and after it, and the
 -- records before it say so much of it?
 abbrev pub reaches : Shape → BankPoint → ℕ → ℕ → Sight → Event → Bool
@@ -59,9 +84,6 @@ reaches shape points.Hit before after seen event = is_hit event
 reaches shape points.Primary before after seen event = is_primary event
 reaches shape points.Merge before after seen event = is_merge event
 reaches shape points.Stall before after seen event = is_stall event
-reaches shape points.StallNoRegister before after seen event = lacks_register seen
-reaches shape points.StallNoEntry before after seen event = is_explicit shape.level1.organisation && lacks_place seen
-reaches shape points.StallField before after seen event = is_implicit shape.level1.organisation && lacks_place seen
 reaches shape points.Fill1 before after seen event = is_fill1 event
 reaches shape points.Evict1 before after seen event = is_evict1 event
 reaches shape points.CleanEviction before after seen event = is_clean event
@@ -72,29 +94,11 @@ reaches shape points.SecondHit before after seen event = is_second_hit event
 reaches shape points.SecondPrimary before after seen event = is_second_primary event
 reaches shape points.SecondMerge before after seen event = is_second_merge event
 reaches shape points.SecondStall before after seen event = is_second_stall event
-reaches shape points.SecondStallNoRegister before after seen event = lacks_register2 seen
-reaches shape points.SecondStallNoEntry before after seen event =
-    is_explicit shape.level2.organisation && lacks_place2 seen
-reaches shape points.SecondRefetch before after seen event = is_refetch2 seen
 reaches shape points.Fill2 before after seen event = is_fill2 event
 reaches shape points.Evict2 before after seen event = is_evict2 event
-reaches shape points.LoadBehindLoad before after seen event = load_behind_load seen
-reaches shape points.LoadBehindStore before after seen event = load_behind_store seen
-reaches shape points.StoreBehindLoad before after seen event = store_behind_load seen
-reaches shape points.StoreBehindStore before after seen event = store_behind_store seen
-reaches shape points.Refetch before after seen event = is_refetch seen
-reaches shape points.FillOutOfOrder before after seen event = overtakes seen
-reaches shape points.FillOverStores before after seen event = is_over_stores seen
-reaches shape points.EvictionUnderSupply before after seen event = is_under_supply seen
-reaches shape points.EvictionOfOtherSet before after seen event = is_of_other_set seen
-reaches shape points.SecondEvictionUnderSupply before after seen event = is_under_supply2 seen
-reaches shape points.SecondEvictionOfSameSet before after seen event = is_of_same_set2 seen
-reaches shape points.EvictionBesidePinned before after seen event = is_beside_pinned seen
-reaches shape points.EvictionOfLastUnpinned before after seen event = is_last_unpinned shape.level2.ways seen
-reaches shape points.SecondPrimaryBesidePinned before after seen event = is_at_pinned seen
-reaches shape points.SecondPrimaryAllPinned before after seen event = is_at_all_pinned shape.level2.ways seen
 reaches shape (points.Numbered measure n) before after seen event =
     is_number n (number_of shape measure before after seen event)
+reaches shape point before after seen event = is_seen shape point seen
 
 abbrev pub reaches_at : Shape → BankPoint → ℕ → ℕ → Sight → Option Record → Bool
 reaches_at shape point before after seen None = false

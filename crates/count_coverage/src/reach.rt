@@ -4,7 +4,7 @@ ghost use Rattle.std.specs.Prelude.{◌≡◌, ◌<◌, ◌≤◌, length};
 ghost use Rattle.trace_views.specs.Views.{masks_of};
 ghost use Rattle.count_coverage.specs.Kinds.{is_clean, is_dirty_in_part, is_dirty_whole, is_load, is_store};
 ghost use Rattle.count_coverage.specs.Kinds.{dirty_blocks, dirty_blocks_of, merge_port, field_taken2};
-ghost use Rattle.count_coverage.specs.Points.{is_implicit, is_explicit, number_of, reaches, port_reaches};
+ghost use Rattle.count_coverage.specs.Points.{is_implicit, is_explicit, number_of, is_seen, reaches, port_reaches};
 
 use crate::point::{BankPoint, Measure, PortPoint};
 use crate::sight::Sight;
@@ -157,6 +157,39 @@ impl Measure {
 }
 
 impl BankPoint {
+    /// Whether the records before an event say that it reaches the point.
+    fn is_seen(self, shape: &Shape, seen: Sight) -> bool
+        ensures { result ≡ is_seen shape.now self seen }
+    {
+        match self {
+            BankPoint::StallNoRegister => seen.lacks_register(),
+            BankPoint::StallNoEntry => is_explicit(&shape.level1.organisation)
+                && seen.lacks_place(),
+            BankPoint::StallField => is_implicit(&shape.level1.organisation) && seen.lacks_place(),
+            BankPoint::SecondStallNoRegister => seen.lacks_register2(),
+            BankPoint::SecondStallNoEntry => {
+                is_explicit(&shape.level2.organisation) && seen.lacks_place2()
+            }
+            BankPoint::SecondRefetch => seen.is_refetch2(),
+            BankPoint::LoadBehindLoad => seen.load_behind_load(),
+            BankPoint::LoadBehindStore => seen.load_behind_store(),
+            BankPoint::StoreBehindLoad => seen.store_behind_load(),
+            BankPoint::StoreBehindStore => seen.store_behind_store(),
+            BankPoint::Refetch => seen.is_refetch(),
+            BankPoint::FillOutOfOrder => seen.overtakes(),
+            BankPoint::FillOverStores => seen.is_over_stores(),
+            BankPoint::EvictionUnderSupply => seen.is_under_supply(),
+            BankPoint::EvictionOfOtherSet => seen.is_of_other_set(),
+            BankPoint::SecondEvictionUnderSupply => seen.is_under_supply2(),
+            BankPoint::SecondEvictionOfSameSet => seen.is_of_same_set2(),
+            BankPoint::EvictionBesidePinned => seen.is_beside_pinned(),
+            BankPoint::EvictionOfLastUnpinned => seen.is_last_unpinned(shape.level2.ways),
+            BankPoint::SecondPrimaryBesidePinned => seen.is_at_pinned(),
+            BankPoint::SecondPrimaryAllPinned => seen.is_at_all_pinned(shape.level2.ways),
+            _ => false,
+        }
+    }
+
     /// Whether the event reaches the point, where so many registers of level one are held before it and after it,
     /// and the records before it say so much of it.
     pub(crate) fn reaches(
@@ -176,10 +209,6 @@ impl BankPoint {
             BankPoint::Primary => matches!(item.event(), EventView::Primary { .. }),
             BankPoint::Merge => matches!(item.event(), EventView::Merge { .. }),
             BankPoint::Stall => matches!(item.event(), EventView::Stall { .. }),
-            BankPoint::StallNoRegister => seen.lacks_register(),
-            BankPoint::StallNoEntry => is_explicit(&shape.level1.organisation)
-                && seen.lacks_place(),
-            BankPoint::StallField => is_implicit(&shape.level1.organisation) && seen.lacks_place(),
             BankPoint::Fill1 => matches!(item.event(), EventView::Fill1 { .. }),
             BankPoint::Evict1 => matches!(item.event(), EventView::Evict1 { .. }),
             BankPoint::CleanEviction => is_clean(item),
@@ -190,31 +219,12 @@ impl BankPoint {
             BankPoint::SecondPrimary => matches!(item.event(), EventView::SecondPrimary { .. }),
             BankPoint::SecondMerge => matches!(item.event(), EventView::SecondMerge { .. }),
             BankPoint::SecondStall => matches!(item.event(), EventView::SecondStall { .. }),
-            BankPoint::SecondStallNoRegister => seen.lacks_register2(),
-            BankPoint::SecondStallNoEntry => {
-                is_explicit(&shape.level2.organisation) && seen.lacks_place2()
-            }
-            BankPoint::SecondRefetch => seen.is_refetch2(),
             BankPoint::Fill2 => matches!(item.event(), EventView::Fill2 { .. }),
             BankPoint::Evict2 => matches!(item.event(), EventView::Evict2 { .. }),
-            BankPoint::LoadBehindLoad => seen.load_behind_load(),
-            BankPoint::LoadBehindStore => seen.load_behind_store(),
-            BankPoint::StoreBehindLoad => seen.store_behind_load(),
-            BankPoint::StoreBehindStore => seen.store_behind_store(),
-            BankPoint::Refetch => seen.is_refetch(),
-            BankPoint::FillOutOfOrder => seen.overtakes(),
-            BankPoint::FillOverStores => seen.is_over_stores(),
-            BankPoint::EvictionUnderSupply => seen.is_under_supply(),
-            BankPoint::EvictionOfOtherSet => seen.is_of_other_set(),
-            BankPoint::SecondEvictionUnderSupply => seen.is_under_supply2(),
-            BankPoint::SecondEvictionOfSameSet => seen.is_of_same_set2(),
-            BankPoint::EvictionBesidePinned => seen.is_beside_pinned(),
-            BankPoint::EvictionOfLastUnpinned => seen.is_last_unpinned(shape.level2.ways),
-            BankPoint::SecondPrimaryBesidePinned => seen.is_at_pinned(),
-            BankPoint::SecondPrimaryAllPinned => seen.is_at_all_pinned(shape.level2.ways),
             BankPoint::Numbered(measure, number) => {
                 measure.number_of(shape, before, after, seen, item) == Some(number)
             }
+            _ => self.is_seen(shape, seen),
         }
     }
 }

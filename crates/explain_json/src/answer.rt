@@ -6,16 +6,17 @@ ghost use Rattle.serde_json.specs.View.{members_view};
 ghost use Rattle.serde_json.specs.Written.{compact_text};
 ghost use Rattle.explain_json.specs.Answer.{word_of, told, IsTextOf, IsAnswer};
 
-use crate::fault::set_faults;
+use crate::fault::{set_broken_before, set_faults};
 use crate::incomplete::incomplete_json;
 use crate::object::Object;
 use crate::usage::usage_json;
-use explain_refusal::{ConfigRefusal, toml_fault};
+use explain_refusal::{ConfigRefusal, FormatRefusal, toml_fault};
 use explain_why::{Why, WhyText};
 use lf_rules::{NoMemory, Shape};
 use lf_verdict::{Outcome, Refusal};
 use serde_json::Value;
 use std::alloc::Global;
+use std::fmt;
 
 /// What the verdict is on, and why it is what it is.
 #[derive(Clone, Copy)]
@@ -61,6 +62,12 @@ fn lines_json(alloc: Global, text: &str) -> Result<Value, NoMemory> {
     Ok(Value::Array(list))
 }
 
+/// The lines of a refusal's explanation.
+fn set_lines<D: fmt::Display>(object: &mut Object, text: &D) -> Result<(), NoMemory> {
+    let lines = format!(in object.alloc; "{text}")?;
+    object.set("explanation", lines_json(object.alloc, lines.as_str())?)
+}
+
 /// Why the verdict is what it is.
 fn set_why(object: &mut Object, told: &Told<'_>) -> Result<(), NoMemory> {
     let Told { shape, bytes, why } = *told;
@@ -68,11 +75,20 @@ fn set_why(object: &mut Object, told: &Told<'_>) -> Result<(), NoMemory> {
         Why::No(why) => set_faults(object, why),
         Why::Yes(usage) => object.set("used", usage_json(object.alloc, shape, usage)?),
         Why::NotComplete(why) => object.set("incomplete", incomplete_json(object.alloc, why)?),
-        Why::Format { .. } | Why::Header => {
-            let text = WhyText { shape, bytes, why };
-            let lines = format!(in object.alloc; "{text}")?;
-            object.set("explanation", lines_json(object.alloc, lines.as_str())?)
+        Why::Format {
+            fault,
+            count,
+            broken,
+        } => {
+            let refusal = FormatRefusal {
+                bytes,
+                fault: *fault,
+                count: *count,
+            };
+            set_lines(object, &refusal)?;
+            set_broken_before(object, broken)
         }
+        Why::Header => set_lines(object, &WhyText { shape, bytes, why }),
     }
 }
 
@@ -89,8 +105,7 @@ fn set_verdict(object: &mut Object, answer: &Answer<'_>) -> Result<(), NoMemory>
                 fault,
                 stop: &stop,
             };
-            let lines = format!(in object.alloc; "{refusal}")?;
-            object.set("explanation", lines_json(object.alloc, lines.as_str())?)
+            set_lines(object, &refusal)
         }
         _ => Ok(()),
     }

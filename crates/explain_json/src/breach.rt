@@ -2,7 +2,7 @@
 
 ghost use Rattle.std.specs.Prelude.{◌≤◌, length};
 
-use crate::carried::set_carried;
+use crate::carried::{set_carried, set_wanted};
 use crate::object::Object;
 use crate::record::{record_at_json, records_json};
 use crate::state::blocks_json;
@@ -10,7 +10,7 @@ use explain_history::{record_at, room};
 use explain_lines::Listing;
 use explain_origins::Origins;
 use explain_replay::Broken;
-use explain_rule::{Explanation, Limit, Taken, sentence_of};
+use explain_rule::{Explanation, Field, Limit, Taken, sentence_of};
 use lf_codec::Packed;
 use lf_rules::{NoMemory, Rule};
 use serde_json::{Value, json};
@@ -90,6 +90,16 @@ fn taken_json(alloc: Global, taken: Option<Taken>) -> Result<Value, NoMemory> {
     }
 }
 
+/// The field that is free, and null where none is told.
+fn field_json(alloc: Global, field: Option<Field>) -> Result<Value, NoMemory> {
+    let value = match field {
+        Some(Field::Word(word)) => json!(in alloc; {"word": word})?,
+        Some(Field::Block(block)) => json!(in alloc; {"block": block})?,
+        None => Value::Null,
+    };
+    Ok(value)
+}
+
 /// What the records of a part are called, and the records.
 fn part_json(alloc: Global, listing: &Listing<'_>, origins: &Origins) -> Result<Value, NoMemory> {
     let mut records = Vec::new(alloc);
@@ -117,14 +127,14 @@ fn origins_json(
     }
 }
 
-/// The records that are told beside these, part by part.
-fn further_json(
+/// The records of parts, part by part.
+pub(crate) fn parts_json(
     alloc: Global,
     listing: &Listing<'_>,
-    further: &[Origins],
+    parts: &[Origins],
 ) -> Result<Value, NoMemory> {
     let mut list = Vec::new(alloc);
-    for origins in further {
+    for origins in parts {
         list.push(part_json(alloc, listing, origins)?)?;
     }
     Ok(Value::Array(list))
@@ -154,7 +164,10 @@ fn set_broken(
     object.set("blocks", blocks_json(alloc, &broken.blocks)?)?;
     let mut room = room();
     match record_at(listing.records, why.history.place, &mut room) {
-        Some(item) => set_carried(object, broken, &item.event),
+        Some(item) => {
+            set_carried(object, broken, &item.event)?;
+            set_wanted(object, why.wanted, &item.event)
+        }
         None => Ok(()),
     }
 }
@@ -170,13 +183,14 @@ pub(crate) fn breach_json(
     object.set("limit", limit_json(alloc, why.limit)?)?;
     object.set("free_register", free_json(why.free))?;
     object.set("taken", taken_json(alloc, why.taken)?)?;
+    object.set("free_field", field_json(alloc, why.field)?)?;
     if let Some(place) = why.history.place {
         set_place(&mut object, listing, place, &why.broken)?;
     }
     object.set("record", record_at_json(alloc, listing, why.history.place)?)?;
     set_broken(&mut object, listing, why)?;
     object.set("origins", origins_json(alloc, listing, &why.origins)?)?;
-    object.set("further", further_json(alloc, listing, &why.further)?)?;
+    object.set("further", parts_json(alloc, listing, &why.further)?)?;
     object.set("before", records_json(alloc, listing, &why.history.before)?)?;
     Ok(object.done())
 }

@@ -110,3 +110,18 @@ pub(crate) fn set_carried(
         None => Ok(()),
     }
 }
+
+/// The register that a miss of this event has to name, and the one that it names, where they are told.
+pub(crate) fn set_wanted(
+    object: &mut Object,
+    wanted: Option<u32>,
+    event: &Event,
+) -> Result<(), NoMemory> {
+    match wanted {
+        Some(wanted) => {
+            let found = u64::from(register_of(event));
+            set_numbers(object, "register", u64::from(wanted), found)
+        }
+        None => Ok(()),
+    }
+}

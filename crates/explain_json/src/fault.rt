@@ -4,9 +4,10 @@ use crate::breach::breach_json;
 use crate::numbers::reason_json;
 use crate::object::Object;
 use explain_lines::Listing;
-use explain_why::{Cause, NotLegal};
+use explain_why::{BrokenBefore, Cause, NotLegal};
 use lf_rules::NoMemory;
-use serde_json::Value;
+use lf_verdict::Upon;
+use serde_json::{Value, json};
 use std::alloc::Global;
 
 /// Why one fault stands in the trace.
@@ -17,7 +18,17 @@ fn cause_json(alloc: Global, listing: &Listing<'_>, cause: &Cause) -> Result<Val
     }
 }
 
-/// Why the fault stands that the verdict names, and what broke first, which is null where that is the same.
+/// The record upon which something broke, and null where none is told.
+fn upon_json(alloc: Global, upon: Option<Upon>) -> Result<Value, NoMemory> {
+    match upon {
+        Some(Upon { log, at, offset }) => {
+            Ok(json!(in alloc; {"log": log, "event": at, "offset": offset})?)
+        }
+        None => Ok(Value::Null),
+    }
+}
+
+/// Why the fault stands that is told, and what broke first, which is null where that is the same.
 pub(crate) fn set_faults(object: &mut Object, why: &NotLegal) -> Result<(), NoMemory> {
     let listing = Listing {
         records: &why.records,
@@ -25,8 +36,27 @@ pub(crate) fn set_faults(object: &mut Object, why: &NotLegal) -> Result<(), NoMe
     };
     let alloc = object.alloc;
     object.set("fault", cause_json(alloc, &listing, &why.fault)?)?;
+    object.set("upon", upon_json(alloc, why.upon)?)?;
     match &why.first {
         Some(first) => object.set("first", cause_json(alloc, &listing, first)?),
         None => object.set("first", Value::Null),
     }
+}
+
+/// What broke first before a fault of the format, which is null where nothing did.
+pub(crate) fn set_broken_before(
+    object: &mut Object,
+    broken: &Option<BrokenBefore>,
+) -> Result<(), NoMemory> {
+    let Some(why) = broken else {
+        object.set("upon", Value::Null)?;
+        return object.set("first", Value::Null);
+    };
+    let listing = Listing {
+        records: &why.records,
+        marks: &why.marks,
+    };
+    let alloc = object.alloc;
+    object.set("upon", upon_json(alloc, Some(why.upon))?)?;
+    object.set("first", cause_json(alloc, &listing, &why.cause)?)
 }

@@ -1,5 +1,6 @@
 //! A legal trace that is not complete.
 
+use crate::breach::parts_json;
 use crate::record::{record_at_json, records_json};
 use explain_lines::Listing;
 use explain_why::NotComplete;
@@ -7,18 +8,22 @@ use lf_rules::NoMemory;
 use serde_json::{Value, json};
 use std::alloc::Global;
 
-/// The first request without a reply, and the last records of its bank at its block.
+/// The first request without a reply, the oldest one, the last records of its bank at its block, and what its bank has
+/// at the end.
 pub(crate) fn incomplete_json(alloc: Global, why: &NotComplete) -> Result<Value, NoMemory> {
     let listing = Listing {
         records: &why.records,
         marks: &why.marks,
     };
     let record = record_at_json(alloc, &listing, Some(why.place))?;
+    let oldest = record_at_json(alloc, &listing, Some(why.oldest))?;
     let at_block = records_json(alloc, &listing, &why.at_block)?;
     Ok(json!(in alloc; {
         "port": why.request.port,
         "tag": why.request.tag,
         "record": record,
-        "at_block": at_block
+        "oldest": oldest,
+        "at_block": at_block,
+        "state": parts_json(alloc, &listing, &why.state)?
     })?)
 }

@@ -1,8 +1,9 @@
 -- What an event begins or ends, by the block or the tag that it is about.
-use Rattle.std.specs.Prelude.{ℕ, ◌+◌, Bool, false, ◌&&◌, ◌==◌, nat_le, nat_lt, Option, Some, None, if◌then◌else◌}
+use Rattle.std.specs.Prelude.{ℕ, ◌+◌, ◌*◌, Bool, false, ◌&&◌, ◌==◌, nat_le, nat_lt, Option, Some, None, if◌then◌else◌}
 use Rattle.lf_rules.specs.declared.event.Event.{Event}
 use Rattle.lf_rules.specs.declared.event.Event.TheVariants.{Issue, Reply, Hit, Primary, Merge, Fill1, Evict1}
-use Rattle.lf_rules.specs.declared.event.Event.TheVariants.{SecondPrimary, SecondMerge, Fill2, Evict2}
+use Rattle.lf_rules.specs.declared.event.Event.TheVariants.{SecondHit, SecondPrimary, SecondMerge, SecondStall}
+use Rattle.lf_rules.specs.declared.event.Event.TheVariants.{Fill2, Evict2}
 use Rattle.lf_rules.specs.declared.shape.Shape.{Shape}
 use Rattle.lf_rules.specs.Address.{second_of}
 use Rattle.explain_origins.specs.declared.requests.AcceptedRequest.{AcceptedRequest}
@@ -50,6 +51,28 @@ abbrev pub miss2_second : Shape → Event → Option ℕ
 miss2_second shape (SecondPrimary block register) = Some (second_of shape block)
 miss2_second shape (SecondMerge block register) = Some (second_of shape block)
 miss2_second shape _ = None
+
+-- the block that level one asks level two for with a primary miss
+abbrev pub asked_block : Option AcceptedRequest → Event → Option ℕ
+asked_block request (Primary port tag register) = request_block request
+asked_block request _ = None
+
+-- the block that level two looks up, whether it has the line or not
+abbrev pub looked_up : Event → Option ℕ
+looked_up (SecondHit block) = Some block
+looked_up (SecondPrimary block register) = Some block
+looked_up (SecondMerge block register) = Some block
+looked_up _ = None
+
+-- the same key for each event of level two
+abbrev pub of_level_two : Event → Option ℕ
+of_level_two (SecondHit block) = Some 0
+of_level_two (SecondPrimary block register) = Some 0
+of_level_two (SecondMerge block register) = Some 0
+of_level_two (SecondStall block) = Some 0
+of_level_two (Fill2 second bytes) = Some 0
+of_level_two (Evict2 second masks bytes) = Some 0
+of_level_two _ = None
 
 -- the register that a miss takes or joins
 abbrev pub named_register : Event → Option ℕ
@@ -128,3 +151,17 @@ accepted_tag wanted _ = None
 abbrev pub replied_tag : ℕ → ℕ → Event → Option ℕ
 replied_tag wanted log (Reply tag size bytes) = tag_at wanted log tag
 replied_tag wanted log _ = None
+
+-- a port and a tag as one number
+abbrev pub port_tag : ℕ → ℕ → ℕ
+port_tag port tag = port * 256 + tag
+
+-- the port and the tag of a request that is issued
+abbrev pub issued_by_any : ℕ → Event → Option ℕ
+issued_by_any log (Issue op tag size address bytes) = Some (port_tag log tag)
+issued_by_any log _ = None
+
+-- the port and the tag of a request that is replied to
+abbrev pub replied_to_any : ℕ → Event → Option ℕ
+replied_to_any log (Reply tag size bytes) = Some (port_tag log tag)
+replied_to_any log _ = None

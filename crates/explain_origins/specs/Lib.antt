@@ -3,6 +3,7 @@ pub mod Accepted
 pub mod Events
 pub mod Freed
 pub mod Further
+pub mod Holding
 pub mod Kept
 pub mod Origins
 pub mod Parts

@@ -11,6 +11,7 @@ use Rattle.explain_origins.specs.Events.{miss2_second}
 use Rattle.explain_origins.specs.Events.{issued_tag, accepted_tag, replied_tag, only, either, within, in_register}
 use Rattle.explain_origins.specs.Events.{cleared_by}
 use Rattle.explain_origins.specs.Events.{store_of_byte, stored_block, written_back}
+use Rattle.explain_origins.specs.Events.{asked_block, looked_up, of_level_two, issued_by_any, replied_to_any}
 
 -- the block, where it is in this set
 abbrev pub in_set : (ℕ → ℕ) → ℕ → Option ℕ → Option ℕ
@@ -48,6 +49,13 @@ begun shape (parts.LastStore block offset) request r = store_of_byte block offse
 begun shape (parts.DirtyLine1 block) request r = only block (either (fill1_block r.event) (stored_block request))
 begun shape (parts.DirtyLine2 second) request r =
     only second (either (fill2_second r.event) (written_back shape r.event))
+begun shape parts.Held1 request r = miss1_block request r.event
+begun shape parts.Held2 request r = miss2_second shape r.event
+begun shape parts.Asked request r = asked_block request r.event
+begun shape parts.LookedUp request r = looked_up r.event
+begun shape parts.LastOfLevelTwo request r = of_level_two r.event
+begun shape parts.LastOfBank request r = Some 0
+begun shape parts.Unreplied request r = issued_by_any r.log r.event
 
 -- What it ends: an eviction takes a line away, a fill frees the registers of its block, an accepted request waits no
 -- longer, and a request has one reply. With a store to a byte the one before is no longer the last.
@@ -77,3 +85,10 @@ ended (parts.Served bank) request r = fill1_block r.event
 ended (parts.LastStore block offset) request r = store_of_byte block offset request
 ended (parts.DirtyLine1 block) request r = evict1_block r.event
 ended (parts.DirtyLine2 second) request r = evict2_second r.event
+ended parts.Held1 request r = fill1_block r.event
+ended parts.Held2 request r = fill2_second r.event
+ended parts.Asked request r = looked_up r.event
+ended parts.LookedUp request r = fill1_block r.event
+ended parts.LastOfLevelTwo request r = of_level_two r.event
+ended parts.LastOfBank request r = Some 0
+ended parts.Unreplied request r = replied_to_any r.log r.event

@@ -36,6 +36,13 @@ heading (parts.Served bank) = codes "the last fill of the bank, behind the targe
 heading (parts.LastStore block offset) = codes "the last accepted store of the first byte that differs"
 heading (parts.DirtyLine1 block) = codes "the fill of the line and the stores to it"
 heading (parts.DirtyLine2 second) = codes "the fill of the line and the evictions of dirty bytes to it"
+heading parts.Held1 = codes "the registers of level one that are held at the end"
+heading parts.Held2 = codes "the registers of level two that are held at the end"
+heading parts.Asked = codes "asked of level two, and not looked up by it"
+heading parts.LookedUp = codes "looked up by level two, and not filled into level one"
+heading parts.LastOfLevelTwo = codes "the last event of level two"
+heading parts.LastOfBank = codes "the last event of the bank"
+heading parts.Unreplied = codes "the requests without a reply, the oldest first"
 
 -- the line of the request that a record accepts, where it accepts one
 abbrev pub request_line : List Record → List Beside → Option ℕ → List ℕ

@@ -5,7 +5,8 @@ ghost use Rattle.explain_origins.specs.Events.{fill1_block, evict1_block, fill2_
 ghost use Rattle.explain_origins.specs.Events.{miss1_block, miss2_second, within, either, only, writes_byte};
 ghost use Rattle.explain_origins.specs.Events.{store_of_byte, stored_block, written_back, tag_at};
 ghost use Rattle.explain_origins.specs.Events.{issued_tag, accepted_tag, replied_tag, named_register, in_register};
-ghost use Rattle.explain_origins.specs.Events.{cleared_by};
+ghost use Rattle.explain_origins.specs.Events.{cleared_by, asked_block, looked_up, of_level_two, port_tag};
+ghost use Rattle.explain_origins.specs.Events.{issued_by_any, replied_to_any};
 
 use crate::requests::AcceptedRequest;
 use lf_rules::{Event, Record, Shape};
@@ -73,8 +74,45 @@ pub(crate) fn miss2_second(shape: &Shape, event: &Event) -> Option<u64>
     }
 }
 
+/// The block that level one asks level two for with a primary miss.
+pub(crate) fn asked_block(request: Option<AcceptedRequest>, event: &Event) -> Option<u64>
+    ensures { result ≡ asked_block request event.now }
+{
+    match event {
+        Event::Primary { .. } => Some(request?.block),
+        _ => None,
+    }
+}
+
+/// The block that level two looks up, whether it has the line or not.
+pub(crate) fn looked_up(event: &Event) -> Option<u32>
+    ensures { result ≡ looked_up event.now }
+{
+    match event {
+        Event::SecondHit { block }
+        | Event::SecondPrimary { block, .. }
+        | Event::SecondMerge { block, .. } => Some(*block),
+        _ => None,
+    }
+}
+
+/// The same key for each event of level two.
+pub(crate) fn of_level_two(event: &Event) -> Option<u64>
+    ensures { result ≡ of_level_two event.now }
+{
+    match event {
+        Event::SecondHit { .. }
+        | Event::SecondPrimary { .. }
+        | Event::SecondMerge { .. }
+        | Event::SecondStall { .. }
+        | Event::Fill2 { .. }
+        | Event::Evict2 { .. } => Some(0),
+        _ => None,
+    }
+}
+
 /// The register that a miss takes or joins.
-pub fn named_register(event: &Event) -> Option<u16>
+pub(crate) fn named_register(event: &Event) -> Option<u16>
     ensures { result ≡ named_register event.now }
 {
     match event {
@@ -240,6 +278,33 @@ pub(crate) fn replied_tag(port: u8, item: &Record) -> Option<u64>
 {
     match &item.event {
         Event::Reply { tag, .. } => tag_at(port, item.log, *tag),
+        _ => None,
+    }
+}
+
+/// A port and a tag as one number.
+fn port_tag(port: u8, tag: u8) -> u64
+    ensures { result ≡ port_tag port tag }
+{
+    u64::from(port) * 256 + u64::from(tag)
+}
+
+/// The port and the tag of a request that is issued.
+pub(crate) fn issued_by_any(item: &Record) -> Option<u64>
+    ensures { result ≡ issued_by_any item.now.log item.now.event }
+{
+    match &item.event {
+        Event::Issue { tag, .. } => Some(port_tag(item.log, *tag)),
+        _ => None,
+    }
+}
+
+/// The port and the tag of a request that is replied to.
+pub(crate) fn replied_to_any(item: &Record) -> Option<u64>
+    ensures { result ≡ replied_to_any item.now.log item.now.event }
+{
+    match &item.event {
+        Event::Reply { tag, .. } => Some(port_tag(item.log, *tag)),
         _ => None,
     }
 }

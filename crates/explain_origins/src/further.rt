@@ -15,7 +15,7 @@ use crate::freed::last_end;
 use crate::origins::{BrokenRule, Origins};
 use crate::parts::StatePart;
 use crate::requests::{block_at, offset_at};
-use crate::standing::standing;
+use crate::standing::places_standing;
 use explain_history::{record_at, room};
 use lf_codec::Packed;
 use lf_rules::{Event, NoMemory, Record, Rule, Shape};
@@ -262,10 +262,10 @@ fn places_in(
                 bank,
                 number,
             };
-            let places = standing(alloc, shape, records, before, part)?;
+            let places = places_standing(alloc, shape, records, before, part)?;
             or_later(alloc, places, later_request(records, naming))
         }
-        _ => standing(alloc, shape, records, before, part),
+        _ => places_standing(alloc, shape, records, before, part),
     }
 }
 
@@ -325,8 +325,8 @@ fn records_in(
     Ok(all)
 }
 
-/// The records of each of these parts.
-fn all_of(
+/// The records of each of these parts, of those at the places before.
+pub fn origins_of_all(
     alloc: Global,
     shape: &Shape,
     records: &Packed,
@@ -362,5 +362,5 @@ pub fn further_of(
         broken.entry.free broken.entry.address broken.entry.value broken.entry.item.now further.items) }
 {
     let parts = further_parts(alloc, shape, broken)?;
-    all_of(alloc, shape, records, before, &parts)
+    origins_of_all(alloc, shape, records, before, &parts)
 }

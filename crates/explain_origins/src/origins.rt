@@ -10,7 +10,7 @@ use crate::accepted::{Origin, with_requests};
 use crate::parts::StatePart;
 use crate::requests::{block_at, offset_at};
 use crate::seen::seen_by;
-use crate::standing::standing;
+use crate::standing::places_standing;
 use lf_codec::Packed;
 use lf_levels::{Level, One, Two};
 use lf_rules::{Event, NoMemory, Record, Rule, Shape};
@@ -219,7 +219,7 @@ fn origins_in(
     let Some(part) = part else {
         return Ok(None);
     };
-    let places = standing(alloc, shape, records, before, part)?;
+    let places = places_standing(alloc, shape, records, before, part)?;
     let records = with_requests(alloc, records, before, &places)?;
     Ok(Some(Origins { part, records }))
 }

@@ -6,9 +6,10 @@ ghost use Rattle.lf_rules.specs.InRange.{IsShape};
 ghost use Rattle.explain_origins.specs.Parts.{in_set};
 
 use crate::events::{
-    accepted_tag, cleared_by, either, evict1_block, evict2_second, fill1_block, fill2_second,
-    in_register, issued_tag, miss1_block, miss2_second, only, replied_tag, store_of_byte,
-    stored_block, within, written_back,
+    accepted_tag, asked_block, cleared_by, either, evict1_block, evict2_second, fill1_block,
+    fill2_second, in_register, issued_by_any, issued_tag, looked_up, miss1_block, miss2_second,
+    of_level_two, only, replied_tag, replied_to_any, store_of_byte, stored_block, within,
+    written_back,
 };
 use crate::requests::AcceptedRequest;
 use lf_levels::{Level, One, Two};
@@ -127,6 +128,20 @@ pub enum StatePart {
     DirtyLine2 {
         second: u64,
     },
+    /// As `Registers1`, where both levels are told.
+    Held1,
+    /// As `Registers2`, where both levels are told.
+    Held2,
+    /// The blocks that level one asked level two for: primary misses, until level two looks the block up.
+    Asked,
+    /// The blocks that level two looked up: its hits, primary misses and merges, until level one is filled.
+    LookedUp,
+    /// The last event of level two.
+    LastOfLevelTwo,
+    /// The last event of the bank.
+    LastOfBank,
+    /// The requests of all ports without a reply: issues, until the reply.
+    Unreplied,
 }
 
 /// The block, where it is in this set of level one.
@@ -181,8 +196,8 @@ impl StatePart {
         match self {
             StatePart::LinesOfSet1 { set } => in_set1(shape, set, fill1_block(event)),
             StatePart::LinesOfSet2 { set } => in_set2(shape, set, fill2_second(event)),
-            StatePart::Registers1 => miss1_block(request, event),
-            StatePart::Registers2 => miss2_second(shape, event),
+            StatePart::Registers1 | StatePart::Held1 => miss1_block(request, event),
+            StatePart::Registers2 | StatePart::Held2 => miss2_second(shape, event),
             StatePart::Queue { port } => issued_tag(port, item),
             StatePart::Unanswered { port } => accepted_tag(port, event),
             StatePart::Outstanding { port } => issued_tag(port, item),
@@ -220,6 +235,11 @@ impl StatePart {
                     either(wide(fill2_second(event)), written_back(shape, event)),
                 )
             }
+            StatePart::Asked => asked_block(request, event),
+            StatePart::LookedUp => wide(looked_up(event)),
+            StatePart::LastOfLevelTwo => of_level_two(event),
+            StatePart::LastOfBank => Some(0),
+            StatePart::Unreplied => issued_by_any(item),
         }
     }
 
@@ -232,11 +252,14 @@ impl StatePart {
             StatePart::LinesOfSet1 { .. } | StatePart::Line1 { .. } => wide(evict1_block(event)),
             StatePart::LinesOfSet2 { .. } | StatePart::Line2 { .. } => wide(evict2_second(event)),
             StatePart::Registers1
+            | StatePart::Held1
+            | StatePart::LookedUp
             | StatePart::Register1 { .. }
             | StatePart::Freed1 { .. }
             | StatePart::Served { .. }
             | StatePart::Targets1 { .. } => wide(fill1_block(event)),
             StatePart::Registers2
+            | StatePart::Held2
             | StatePart::Register2 { .. }
             | StatePart::Freed2 { .. }
             | StatePart::Targets2 { .. } => wide(fill2_second(event)),
@@ -259,6 +282,10 @@ impl StatePart {
             StatePart::LastStore { block, offset } => store_of_byte(block, offset, request),
             StatePart::DirtyLine1 { .. } => wide(evict1_block(event)),
             StatePart::DirtyLine2 { .. } => wide(evict2_second(event)),
+            StatePart::Asked => wide(looked_up(event)),
+            StatePart::LastOfLevelTwo => of_level_two(event),
+            StatePart::LastOfBank => Some(0),
+            StatePart::Unreplied => replied_to_any(item),
         }
     }
 }

@@ -122,7 +122,7 @@ fn standing_store(
 
 /// The places of the records that begin what is in this part of the state and what no later record ends, of the
 /// records at these places.
-pub(crate) fn standing(
+pub fn places_standing(
     alloc: Global,
     shape: &Shape,
     records: &Packed,

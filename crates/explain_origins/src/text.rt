@@ -48,6 +48,13 @@ impl StatePart {
             StatePart::DirtyLine2 { .. } => {
                 "the fill of the line and the evictions of dirty bytes to it"
             }
+            StatePart::Held1 => "the registers of level one that are held at the end",
+            StatePart::Held2 => "the registers of level two that are held at the end",
+            StatePart::Asked => "asked of level two, and not looked up by it",
+            StatePart::LookedUp => "looked up by level two, and not filled into level one",
+            StatePart::LastOfLevelTwo => "the last event of level two",
+            StatePart::LastOfBank => "the last event of the bank",
+            StatePart::Unreplied => "the requests without a reply, the oldest first",
         }
     }
 }

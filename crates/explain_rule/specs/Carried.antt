@@ -6,7 +6,8 @@ use Rattle.std.specs.Fmt.{decimal}
 use Rattle.std.specs.List.{range_with_len, common_prefix_len, list_any, flat_map}
 use Rattle.lf_rules.specs.declared.mask.Mask.{Mask}
 use Rattle.lf_rules.specs.declared.event.Event.{Event}
-use Rattle.lf_rules.specs.declared.event.Event.TheVariants.{Reply, Primary, Merge, Evict1, Evict2}
+use Rattle.lf_rules.specs.declared.event.Event.TheVariants.{Reply, Primary, Merge, SecondPrimary, SecondMerge}
+use Rattle.lf_rules.specs.declared.event.Event.TheVariants.{Evict1, Evict2}
 use Rattle.lf_rules.specs.declared.event.Record.{Record}
 use Rattle.lf_rules.specs.Address.{Masks, mask_at}
 use Rattle.lf_rules.specs.Lines.{no_masks}
@@ -85,7 +86,7 @@ masks_lines due found due_addresses addresses =
     ++ beyond_line (codes "too many") (all_beyond found due) due_addresses addresses
     ++ beyond_line (codes "too few ") (all_beyond due found) addresses due_addresses
 
--- the size of the reply, and the register of the miss of level one
+-- the size of the reply, and the register of the miss
 abbrev pub size_of : Event → ℕ
 size_of (Reply tag size bytes) = size
 size_of _ = 0
@@ -93,6 +94,8 @@ size_of _ = 0
 abbrev pub register_of : Event → ℕ
 register_of (Primary port tag register) = register
 register_of (Merge port tag register) = register
+register_of (SecondPrimary block register) = register
+register_of (SecondMerge block register) = register
 register_of _ = 0
 
 -- a number, behind what it is

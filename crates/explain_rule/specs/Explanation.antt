@@ -15,14 +15,15 @@ use Rattle.explain_rule.specs.declared.explanation.Breach.{Breach}
 use Rattle.explain_rule.specs.declared.explanation.Breach.TheVariants.{Port, Bank}
 use Rattle.explain_rule.specs.declared.explanation.Explanation.{Explanation}
 use Rattle.explain_rule.specs.Breach.{rule_of}
+use Rattle.explain_rule.specs.Field.{field_at}
 use Rattle.explain_rule.specs.Free.{free_at}
 use Rattle.explain_rule.specs.Limit.{limit_at}
-use Rattle.explain_rule.specs.Origins.{ComeFrom}
+use Rattle.explain_rule.specs.Origins.{AreBefore, AreOriginsAt, AreFurtherAt}
 use Rattle.explain_rule.specs.Taken.{taken_at}
+use Rattle.explain_rule.specs.Wanted.{wanted_at}
 
 -- The record that breaks the rule, and the last before it that matter: those of the port's log, or those of the bank
--- that touch its
--- second-level block.
+-- that touch its second-level block.
 abbrev pub IsHistoryOf : Shape → List Record → Breach → ℕ → History → Type 0
 IsHistoryOf shape rs (Port port at rule) most history = IsHistoryInLog rs port at most history
 IsHistoryOf shape rs (Bank bank number rule) most history = IsHistoryInBank shape rs bank number most history
@@ -39,16 +40,27 @@ IsBrokenBy shape memory rs (Port port at rule) broken = broken ≡ None
 IsBrokenBy shape memory rs (Bank bank number rule) broken =
     IsFirstBroken shape (bank_part shape bank (flat_memory memory)) (in_order bank rs (number + 1)) broken
 
--- It tells of the rule, of how many there are of what it is about, which one is free and how many are taken, of the
--- record that breaks it, of what that has to carry and which blocks it names, of the records that the state of the rule
--- comes from, of those that are told beside them, and of the records before.
+-- Of the records before comes the state that the rule is about, and so do the register and the field that are free, the
+-- register that the record has to name, and what is told beside these.
+pub record ComeFrom (shape : Shape) (rs : List Record) (breach : Breach) (why : Explanation) : Type 0 where
+  pub before : List (Option ℕ)
+  pub are_before : AreBefore rs breach before
+  pub origins : AreOriginsAt shape rs before (rule_of breach) why.broken (record_at rs why.history.place) why.origins
+  pub free : why.free
+      ≡ free_at shape rs before (rule_of breach) why.limit why.origins (record_at rs why.history.place)
+  pub field : why.field ≡ field_at shape rs before (rule_of breach) why.limit (record_at rs why.history.place)
+  pub wanted : why.wanted ≡ wanted_at shape rs before (rule_of breach) why.broken (record_at rs why.history.place)
+  pub further : AreFurtherAt shape rs before breach why.broken why.free (record_at rs why.history.place)
+      why.further.items
+
+-- It tells of the rule, of how many there are of what it is about, of the record that breaks it, of what that has to
+-- carry and which blocks it names, of the records before, of what comes from these, and of how many targets a register
+-- has.
 pub record IsExplanation (shape : Shape) (memory : List (ℕ × Bytes)) (rs : List Record) (breach : Breach) (most : ℕ)
     (why : Explanation) : Type 0 where
   pub rule : why.rule ≡ rule_of breach
   pub limit : why.limit ≡ limit_at shape (rule_of breach) why.broken (record_at rs why.history.place)
   pub history : IsHistoryOf shape rs breach most why.history
   pub broken : IsBrokenBy shape memory rs breach why.broken
-  pub free : why.free ≡ free_at shape rs (rule_of breach) why.limit why.origins (record_at rs why.history.place)
-  pub origins : ComeFrom shape rs breach why.broken why.free (record_at rs why.history.place) why.origins
-      why.further.items
+  pub come_from : ComeFrom shape rs breach why
   pub taken : why.taken ≡ taken_at rs (rule_of breach) why.limit why.further.items

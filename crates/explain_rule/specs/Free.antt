@@ -12,13 +12,11 @@ use Rattle.lf_rules.specs.declared.shape.Shape.{Shape}
 use Rattle.lf_rules.specs.Table.{destination}
 use Rattle.explain_origins.specs.declared.accepted.Origin.{Origin}
 use Rattle.explain_origins.specs.declared.origins.Origins.{Origins}
-use Rattle.explain_origins.specs.Events.{is_key, named_register}
+use Rattle.explain_origins.specs.declared.parts.StatePart.TheVariants.{Targets1}
+use Rattle.explain_origins.specs.Events.{is_key}
+use Rattle.explain_origins.specs.Holding.{register_in, register_of}
 use Rattle.explain_rule.specs.declared.limit.Limit.{Limit}
 use Rattle.explain_rule.specs.declared.limit.Limit.TheVariants.{Registers}
-
-abbrev pub register_in : Option Record → Option ℕ
-register_in None = None
-register_in (Some r) = named_register r.event
 
 -- does one of these misses name the register?
 abbrev pub is_named : List Record → List Origin → ℕ → Bool
@@ -34,15 +32,17 @@ free_in rs Inverted wanted count origins = wanted
 free_in rs _ wanted count None = None
 free_in rs _ wanted count (Some origins) = lowest_free rs origins.records.items count
 
--- the register that is free at a stall which waits for one of so many
-abbrev pub free_of : Shape → List Record → Option Limit → Option Origins → Event → Option ℕ
-free_of shape rs (Some (Registers count)) origins (Stall port tag) =
+-- The register that is free at a stall which waits for one of so many, after the records at the places before. In an
+-- inverted file of level two a block takes the register of its primary miss.
+abbrev pub free_of : Shape → List Record → List (Option ℕ) → Option Limit → Option Origins → Event → Option ℕ
+free_of shape rs before (Some (Registers count)) origins (Stall port tag) =
     free_in rs shape.level1.organisation (Some (destination shape port tag)) count origins
-free_of shape rs (Some (Registers count)) origins (SecondStall block) =
-    free_in rs shape.level2.organisation None count origins
-free_of shape rs limit origins event = None
+free_of shape rs before (Some (Registers count)) origins (SecondStall block) =
+    free_in rs shape.level2.organisation (register_of shape rs before (Targets1 block)) count origins
+free_of shape rs before limit origins event = None
 
 -- the same of the record at a place, where its stall is needless
-abbrev pub free_at : Shape → List Record → Rule → Option Limit → Option Origins → Option Record → Option ℕ
-free_at shape rs rules.NeedlessStall limit origins (Some r) = free_of shape rs limit origins r.event
-free_at shape rs rule limit origins item = None
+abbrev pub free_at : Shape → List Record → List (Option ℕ) → Rule → Option Limit → Option Origins → Option Record →
+    Option ℕ
+free_at shape rs before rules.NeedlessStall limit origins (Some r) = free_of shape rs before limit origins r.event
+free_at shape rs before rule limit origins item = None

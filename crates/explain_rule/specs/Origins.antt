@@ -79,17 +79,7 @@ AreFurtherAt shape rs before breach broken free (Some r) further =
     (fault_address (rule_of breach) broken r.event) (wrong_value broken r.event) r further
 
 -- At these places are the records before the one that breaks the rule: those of the port's log, or those of the bank
--- with
--- lower numbers.
+-- with lower numbers.
 abbrev pub AreBefore : List Record → Breach → List (Option ℕ) → Type 0
 AreBefore rs (Port port at rule) before = before ≡ map Some (take at (places_of_log port rs))
 AreBefore rs (Bank bank number rule) before = records_at rs before ≡ in_order bank rs number
-
--- The state that the rule is about comes from these of the records before, where a record breaks it, and these are told
--- beside them.
-pub record ComeFrom (shape : Shape) (rs : List Record) (breach : Breach) (broken : Option Broken) (free : Option ℕ)
-    (item : Option Record) (origins : Option Origins) (further : List Origins) : Type 0 where
-  pub before : List (Option ℕ)
-  pub are_before : AreBefore rs breach before
-  pub origins_are : AreOriginsAt shape rs before (rule_of breach) broken item origins
-  pub further_are : AreFurtherAt shape rs before breach broken free item further

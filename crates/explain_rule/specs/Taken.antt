@@ -7,10 +7,10 @@ use Rattle.lf_rules.specs.declared.rule.Rule.{Rule}
 use Rattle.lf_rules.specs.declared.rule.Rule.TheVariants as rules
 use Rattle.explain_origins.specs.declared.accepted.Origin.{Origin}
 use Rattle.explain_origins.specs.declared.origins.Origins.{Origins}
+use Rattle.explain_origins.specs.Holding.{register_in}
 use Rattle.explain_rule.specs.declared.limit.Limit.{Limit}
 use Rattle.explain_rule.specs.declared.limit.Limit.TheVariants.{Targets, Words, Blocks}
 use Rattle.explain_rule.specs.declared.taken.Taken.{Taken}
-use Rattle.explain_rule.specs.Free.{register_in}
 
 -- the register that these misses took and joined, which has a target of each
 abbrev pub taken_in : List Record → List Origin → Option Taken

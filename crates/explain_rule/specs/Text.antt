@@ -11,10 +11,12 @@ use Rattle.explain_origins.specs.Text as explain_origins
 use Rattle.explain_rule.specs.declared.explanation.Explanation.{Explanation}
 use Rattle.explain_history.specs.Touching.{record_at}
 use Rattle.explain_rule.specs.Carried.{carried_text}
+use Rattle.explain_rule.specs.Field.{field_text}
 use Rattle.explain_rule.specs.Limit.{limit_text, free_text}
 use Rattle.explain_rule.specs.Sentence.{sentence}
 use Rattle.explain_rule.specs.State.{state_text}
 use Rattle.explain_rule.specs.Taken.{taken_text}
+use Rattle.explain_rule.specs.Wanted.{wanted_text}
 
 -- what the rule asks
 abbrev pub asked_text : Rule → List ℕ
@@ -34,11 +36,15 @@ origins_text rs marks (Some origins) = explain_origins.origins_text rs marks ori
 abbrev pub further_text : List Record → List Beside → List Origins → List ℕ
 further_text rs marks further = flat_map (explain_origins.origins_text rs marks) further
 
+-- what the record has to carry and carries, and the register that it has to name and names
+abbrev pub carries_text : Option Record → Explanation → List ℕ
+carries_text item why = carried_text item why.broken ++ wanted_text item why.wanted
+
 -- the record, what the rule asks, how many there are of what it is about, and what the record has to carry and carries
 abbrev pub fault_text : List Record → List Beside → Explanation → List ℕ
 fault_text rs marks why =
     line_at rs marks why.history.place ++ asked_text why.rule ++ limit_text why.limit ++ free_text why.free
-    ++ taken_text why.taken ++ carried_text (record_at rs why.history.place) why.broken
+    ++ taken_text why.taken ++ field_text why.field ++ carries_text (record_at rs why.history.place) why
 
 -- that, what the bank has of its blocks, the records that the state of the rule comes from, those that are told beside
 -- them, and the records before

@@ -6,6 +6,7 @@ ghost use Rattle.explain_rule.specs.Carried.{expected_line, place_text, found_li
 ghost use Rattle.explain_rule.specs.Carried.{size_of, register_of, number_line};
 ghost use Rattle.explain_rule.specs.Carried.{one_mask, masks_of, beyond, all_beyond, mask_line, masks_lines};
 ghost use Rattle.explain_rule.specs.Carried.{is_among, other_address, other_addresses, addresses_text, beyond_line};
+ghost use Rattle.explain_rule.specs.Wanted.{wanted_lines};
 ghost use Rattle.lf_rules.specs.Lines.{no_masks};
 
 use explain_replay::{Broken, Expected};
@@ -318,12 +319,15 @@ pub fn size_of(event: &Event) -> u8
     }
 }
 
-/// The register of a miss of level one.
+/// The register of a miss.
 pub fn register_of(event: &Event) -> u16
     ensures { result ≡ register_of event.now }
 {
     match event {
-        Event::Primary { register, .. } | Event::Merge { register, .. } => *register,
+        Event::Primary { register, .. }
+        | Event::Merge { register, .. }
+        | Event::SecondPrimary { register, .. }
+        | Event::SecondMerge { register, .. } => *register,
         _ => 0,
     }
 }
@@ -392,6 +396,34 @@ impl fmt::Display for Due<'_> {
                 let expected = NumberLine {
                     label: "expected register=",
                     number: u64::from(*due),
+                };
+                let found = NumberLine {
+                    label: "found    register=",
+                    number: u64::from(register_of(self.event)),
+                };
+                write!(f, "{expected}{found}")
+            }
+            None => Ok(()),
+        }
+    }
+}
+
+/// The register that a miss has to name, and the one that it names, where they are told.
+#[derive(Clone, Copy)]
+pub(crate) struct WantedLines<'a> {
+    pub event: &'a Event,
+    pub wanted: Option<u32>,
+}
+
+impl fmt::Display for WantedLines<'_> {
+    ghost output = { λ it. Some (wanted_lines it.wanted it.event.now) };
+
+    fn fmt<W: fmt::Write>(&self, f: &mut fmt::Formatter<W>) -> fmt::Result {
+        match self.wanted {
+            Some(wanted) => {
+                let expected = NumberLine {
+                    label: "expected register=",
+                    number: u64::from(wanted),
                 };
                 let found = NumberLine {
                     label: "found    register=",

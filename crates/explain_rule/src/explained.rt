@@ -2,13 +2,13 @@
 
 ghost use Rattle.std.specs.Prelude.{Some};
 ghost use Rattle.explain_history.specs.Touching.{record_at};
-ghost use Rattle.explain_rule.specs.Carried.{carried_text};
-ghost use Rattle.explain_rule.specs.Text.{asked_text, before_text, origins_text, further_text};
+ghost use Rattle.explain_rule.specs.Text.{asked_text, before_text, origins_text, further_text, carries_text};
 ghost use Rattle.explain_rule.specs.Text.{fault_text, explained_text};
 ghost use Rattle.explain_lines.specs.Marks.{besides};
 
-use crate::carried::Carried;
+use crate::carried::{Carried, WantedLines};
 use crate::explanation::Explanation;
+use crate::field::FieldLine;
 use crate::limit::{FreeLine, LimitLine};
 use crate::sentence::sentence_of;
 use crate::state::State;
@@ -42,7 +42,7 @@ struct RecordCarries<'a> {
 
 impl fmt::Display for RecordCarries<'_> {
     ghost output = { λ it. Some
-        (carried_text (record_at it.listing.records.now.records it.why.now.history.place) it.why.now.broken) };
+        (carries_text (record_at it.listing.records.now.records it.why.now.history.place) it.why.now) };
 
     fn fmt<W: fmt::Write>(&self, f: &mut fmt::Formatter<W>) -> fmt::Result {
         let mut room = room();
@@ -54,7 +54,11 @@ impl fmt::Display for RecordCarries<'_> {
             event: &item.event,
             broken: &self.why.broken,
         };
-        write!(f, "{carried}")
+        let wanted = WantedLines {
+            event: &item.event,
+            wanted: self.why.wanted,
+        };
+        write!(f, "{carried}{wanted}")
     }
 }
 
@@ -148,11 +152,12 @@ impl fmt::Display for FaultLines<'_> {
         let limit = LimitLine(self.why.limit);
         let free = FreeLine(self.why.free);
         let taken = TakenLine(self.why.taken);
+        let field = FieldLine(self.why.field);
         let carried = RecordCarries {
             listing,
             why: self.why,
         };
-        write!(f, "{record}{asked}{limit}{free}{taken}{carried}")
+        write!(f, "{record}{asked}{limit}{free}{taken}{field}{carried}")
     }
 }
 

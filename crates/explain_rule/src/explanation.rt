@@ -7,11 +7,13 @@ ghost use Rattle.lf_rules.specs.InRange.{IsShape};
 ghost use Rattle.explain_rule.specs.Breach.{rule_of};
 ghost use Rattle.explain_rule.specs.Explanation.{HasBank, IsExplanation};
 
+use crate::field::{Field, field_at};
 use crate::found::{Found, find};
 use crate::free::free_at;
 use crate::limit::{Limit, limit_at};
 use crate::origins::{further_at, origins_at};
 use crate::taken::{Taken, taken_at};
+use crate::wanted::wanted_at;
 use explain_history::History;
 use explain_origins::Origins;
 use explain_replay::Broken;
@@ -50,6 +52,10 @@ pub struct Explanation {
     pub free: Option<u32>,
     /// Where it waits for no reason and a register holds its block, that register and how many targets it has.
     pub taken: Option<Taken>,
+    /// Where its field of that register is free, the field.
+    pub field: Option<Field>,
+    /// The register that a miss has to name which names another, where it is not that of its request.
+    pub wanted: Option<u32>,
     /// The record, and the last before it that matter.
     pub history: History,
     /// What the rule asks that the record carries, and what the bank has of its blocks, where it is a rule of a bank.
@@ -86,23 +92,19 @@ pub fn explain(
     } = find(alloc, shape, memory, records, breach, most)?;
     let origins = origins_at(alloc, shape, records, &before, rule, &broken, history.place)?;
     let limit = limit_at(shape, records, rule, &broken, history.place);
-    let free = free_at(shape, records, rule, limit, &origins, history.place);
-    let further = further_at(
-        alloc,
-        shape,
-        records,
-        &before,
-        breach,
-        &broken,
-        free,
-        history.place,
-    )?;
+    let place = history.place;
+    let free = free_at(alloc, shape, records, &before, rule, limit, &origins, place)?;
+    let field = field_at(shape, records, &before, rule, limit, place);
+    let wanted = wanted_at(alloc, shape, records, &before, rule, &broken, place)?;
+    let further = further_at(alloc, shape, records, &before, breach, &broken, free, place)?;
     let taken = taken_at(records, rule, limit, &further);
     Ok(Explanation {
         rule,
         limit,
         free,
         taken,
+        field,
+        wanted,
         history,
         broken,
         origins,

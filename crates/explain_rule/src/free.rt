@@ -1,29 +1,19 @@
 //! Which register is free where a stall is needless.
 
-ghost use Rattle.std.specs.Prelude.{◌≡◌, slice_get};
+ghost use Rattle.std.specs.Prelude.{◌≡◌, slice_get, IfOk};
 ghost use Rattle.lf_rules.specs.InRange.{IsShape};
 ghost use Rattle.lf_rules.specs.Table.{destination};
 ghost use Rattle.explain_history.specs.Touching.{record_at};
 ghost use Rattle.explain_origins.specs.Events.{is_key};
-ghost use Rattle.explain_rule.specs.Free.{register_in, is_named, lowest_free, free_in, free_of, free_at};
+ghost use Rattle.explain_origins.specs.Holding.{register_in};
+ghost use Rattle.explain_rule.specs.Free.{is_named, lowest_free, free_in, free_of, free_at};
 
 use crate::limit::Limit;
 use explain_history::{record_at, room};
-use explain_origins::{Origin, Origins, named_register};
+use explain_origins::{Origin, Origins, StatePart, register_at, register_of};
 use lf_codec::Packed;
-use lf_rules::{Event, OrgShape, Rule, Shape};
-
-/// The register that the miss at the place names.
-pub(crate) fn register_at(records: &Packed, place: usize) -> Option<u32>
-    ensures { result ≡ register_in (slice_get records.now.records place) }
-{
-    let mut room = room();
-    let item = record_at(records, Some(place), &mut room)?;
-    match named_register(&item.event) {
-        Some(named) => Some(u32::from(named)),
-        None => None,
-    }
-}
+use lf_rules::{Event, NoMemory, OrgShape, Rule, Shape};
+use std::alloc::Global;
 
 /// Whether the miss at the place names the register.
 fn names(records: &Packed, place: usize, register: u32) -> bool
@@ -77,51 +67,62 @@ fn destination(shape: &Shape, port: u8, tag: u8) -> u32
     u32::from(port) * shape.tags + u32::from(tag)
 }
 
-/// The register that is free at a stall which waits for one of so many.
+/// The register that is free at a stall which waits for one of so many, after the records at the places before.
 fn free_of(
+    alloc: Global,
     shape: &Shape,
     records: &Packed,
+    before: &[Option<usize>],
     limit: Option<Limit>,
     origins: &Option<Origins>,
     event: &Event,
-) -> Option<u32>
+) -> Result<Option<u32>, NoMemory>
     requires { IsShape shape.now }
-    ensures { result ≡ free_of shape.now records.now.records limit origins.now event.now }
+    ensures { IfOk result (λ free.
+        free ≡ free_of shape.now records.now.records before.now limit origins.now event.now) }
 {
     let Some(Limit::Registers(count)) = limit else {
-        return None;
+        return Ok(None);
     };
     match event {
         Event::Stall { port, tag } => {
             let wanted = Some(destination(shape, *port, *tag));
-            free_in(records, shape.level1.organisation, wanted, count, origins)
+            let organisation = shape.level1.organisation;
+            Ok(free_in(records, organisation, wanted, count, origins))
         }
-        Event::SecondStall { .. } => {
-            free_in(records, shape.level2.organisation, None, count, origins)
+        Event::SecondStall { block } => {
+            let part = StatePart::Targets1 {
+                block: u64::from(*block),
+            };
+            let wanted = register_of(alloc, shape, records, before, part)?;
+            let organisation = shape.level2.organisation;
+            Ok(free_in(records, organisation, wanted, count, origins))
         }
-        _ => None,
+        _ => Ok(None),
     }
 }
 
 /// The same of the record at a place, where its stall is needless.
 pub(crate) fn free_at(
+    alloc: Global,
     shape: &Shape,
     records: &Packed,
+    before: &[Option<usize>],
     rule: Rule,
     limit: Option<Limit>,
     origins: &Option<Origins>,
     place: Option<usize>,
-) -> Option<u32>
+) -> Result<Option<u32>, NoMemory>
     requires { IsShape shape.now }
-    ensures { result ≡ free_at shape.now records.now.records rule limit origins.now
-        (record_at records.now.records place) }
+    ensures { IfOk result (λ free. free ≡ free_at shape.now records.now.records before.now rule limit origins.now
+        (record_at records.now.records place)) }
 {
     if !matches!(rule, Rule::NeedlessStall) {
-        return None;
+        return Ok(None);
     }
     let mut room = room();
     match record_at(records, place, &mut room) {
-        Some(item) => free_of(shape, records, limit, origins, &item.event),
-        None => None,
+        Some(item) => free_of(alloc, shape, records, before, limit, origins, &item.event),
+        None => Ok(None),
     }
 }

@@ -9,6 +9,7 @@
 mod carried;
 mod explained;
 mod explanation;
+mod field;
 mod found;
 mod free;
 mod limit;
@@ -16,10 +17,12 @@ mod origins;
 mod sentence;
 mod state;
 mod taken;
+mod wanted;
 
 pub use carried::{all_beyond, first_difference, is_among, masks_of, register_of, size_of};
 pub use explained::Explained;
 pub use explanation::{Breach, Explanation, explain};
+pub use field::Field;
 pub use limit::Limit;
 pub use sentence::sentence_of;
 pub use taken::Taken;

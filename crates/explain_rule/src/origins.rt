@@ -75,7 +75,7 @@ fn first_block(blocks: &[NamedBlock]) -> Option<u64>
 }
 
 /// The address of the first block that the record names.
-fn named_address(broken: &Option<Broken>) -> Option<u64>
+pub(crate) fn named_address(broken: &Option<Broken>) -> Option<u64>
     ensures { result ≡ named_address broken.now }
 {
     match broken {

@@ -3,9 +3,8 @@
 ghost use Rattle.std.specs.Prelude.{◌≡◌, Some};
 ghost use Rattle.explain_rule.specs.Taken.{taken_in, first_taken, taken_of, taken_at, taken_line, taken_text};
 
-use crate::free::register_at;
 use crate::limit::Limit;
-use explain_origins::{Origin, Origins};
+use explain_origins::{Origin, Origins, register_at};
 use lf_codec::Packed;
 use lf_rules::Rule;
 use std::fmt;

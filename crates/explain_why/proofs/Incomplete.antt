@@ -13,12 +13,13 @@ use Rattle.explain_why.specs.Packing.{IsPacking}
 use Rattle.explain_history.specs.History.{last_at_request}
 use Rattle.explain_history.specs.Waiting.{waiting_request}
 use Rattle.explain_lines.specs.Marks.{besides, besides_of}
+use Rattle.explain_origins.specs.declared.origins.Origins.{Origins}
 use Rattle.lf_logs.specs.Lists.{logs_of}
 use Rattle.lf_logs.specs.declared.incomplete.Incomplete.{Incomplete}
 use Rattle.lf_verdict.specs.Breaking.{first_offset}
 use Rattle.explain_why.specs.declared.not_complete.NotComplete.{NotComplete}
 use Rattle.lf_verdict.specs.Incomplete.{IsIncompleteIn}
-use Rattle.explain_why.specs.NotComplete.{IsNotComplete}
+use Rattle.explain_why.specs.NotComplete.{oldest_of, IsStateAtEnd, IsStuck, IsNotComplete}
 use Rattle.explain_why.proofs.Waits.{has_request}
 
 module _ (shape : Shape) (bytes : List ℕ) (found : Incomplete) (is : IsIncompleteIn shape bytes (Some found))
@@ -37,15 +38,13 @@ module _ (shape : Shape) (bytes : List ℕ) (found : Incomplete) (is : IsIncompl
       is.first.1.0 none
 
   -- What was found is why the trace is not complete.
-  pub is_not_complete : (time : ℕ → ℕ → Option (List ℕ)) (most : ℕ) (why : NotComplete) (d : Record)
-      → why.request ≡ found → why.records.records ≡ packing.records.records
+  pub is_not_complete : (time : ℕ → ℕ → Option (List ℕ)) (most : ℕ) (why : NotComplete) → why.request ≡ found
+      → why.records.records ≡ packing.records.records
       → besides why.marks ≡ besides_of time packing.start packing.records.records
       → waiting_request found.port found.tag packing.records.records ≡ Some why.place
-      → why.place < length packing.records.records
-      → why.at_block.items
-      ≡ last_at_request shape packing.records.records most (slice_index_or packing.records.records why.place d)
+      → IsStuck shape packing.records.records most why.place why.oldest why.at_block.items why.state.items
       → IsNotComplete shape bytes time most found why
-  is_not_complete time most why d is_request records marks waits inside at_block = record {
+  is_not_complete time most why is_request records marks waits stuck = record {
     memory = is.memory;
     logs = is.logs;
     trace = is.trace;
@@ -57,9 +56,20 @@ module _ (shape : Shape) (bytes : List ℕ) (found : Incomplete) (is : IsIncompl
         ∙ ap (λ (m : List (ℕ × Bytes)). besides_of time (first_offset is.trace.header m) packing.records.records) one.1
         ∙ ap (besides_of time (first_offset is.trace.header is.memory)) one.2;
     waits = subst (λ (rs : List Record). waiting_request found.port found.tag rs ≡ Some why.place) one.2 waits;
-    request = slice_index_or is.trace.records why.place d;
-    stands = subst (λ (rs : List Record). slice_get rs why.place ≡ Some (slice_index_or rs why.place d)) one.2
-        (slice_get-get_or packing.records.records why.place d inside);
-    at_block = subst (λ (rs : List Record). why.at_block.items
-        ≡ last_at_request shape rs most (slice_index_or rs why.place d)) one.2 at_block;
+    stuck = subst (λ (rs : List Record). IsStuck shape rs most why.place why.oldest why.at_block.items why.state.items)
+        one.2 stuck;
   }
+
+-- What is told of the oldest request is of its record.
+pub is_stuck : (shape : Shape) (rs : List Record) (most place oldest : ℕ) (at_block : List ℕ) (state : List Origins)
+    (d : Record) (bank : ℕ) → oldest ≡ oldest_of shape rs place → oldest < length rs
+    → at_block ≡ last_at_request shape rs most (slice_index_or rs oldest d)
+    → bank ≡ (slice_index_or rs oldest d).bank → IsStateAtEnd shape rs bank state
+    → IsStuck shape rs most place oldest at_block state
+is_stuck shape rs most place oldest at_block state d bank is inside at_block_are bank_is state_is = record {
+  oldest_is = is;
+  request = slice_index_or rs oldest d;
+  stands = slice_get-get_or rs oldest d inside;
+  at_block_are = at_block_are;
+  state_is = subst (λ (b : ℕ). IsStateAtEnd shape rs b state) bank_is state_is;
+}

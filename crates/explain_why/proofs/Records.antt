@@ -25,7 +25,8 @@ use Rattle.lf_verdict.specs.Outcome.{IsDecidedOutcome, IsYes, IsOutcomeOf}
 use Rattle.explain_lines.specs.Marks.{besides, besides_of}
 use Rattle.explain_why.specs.declared.not_legal.NotLegal.{NotLegal}
 use Rattle.explain_why.specs.Cause.{HasBankOf, IsCause}
-use Rattle.explain_why.specs.NotLegal.{HasBankOfFirst, IsEarliestIf, as_fault, IsFirstCause, IsNotLegal}
+use Rattle.explain_why.specs.NotLegal.{HasBankOfFirst, IsEarliestIf, as_fault, upon_of, IsFirstCause, IsSomeTraceFor}
+use Rattle.explain_why.specs.NotLegal.{IsNotLegal}
 
 -- ---- what is told
 
@@ -43,7 +44,7 @@ pub bank_is : (shape : Shape) (bytes : List ℕ) (fault : Fault) → IsNo shape 
 bank_is shape bytes fault is = fault_bank shape (flat_memory is.memory) is.logs fault is.fault_of
 
 -- What broke first is of a bank of the shape's, where it is of one.
-part_bank : (shape : Shape) (memory : FlatMemory) (records : List Record) (part : PartFault) →
+pub part_bank : (shape : Shape) (memory : FlatMemory) (records : List Record) (part : PartFault) →
     IsFaultOfPart shape memory records part
     → HasBankOf shape (as_fault part)
 part_bank shape memory records (parts.Double bank k) is = tt
@@ -70,39 +71,41 @@ countable shape bytes outcome events is judged =
 
 -- ---- a no
 
-module _ (shape : Shape) (bytes : List ℕ) (fault : Fault) (is : IsNo shape bytes fault) (packing : Packing)
+-- A trace that is not legal is one.
+pub trace_of_no : (shape : Shape) (bytes : List ℕ) (fault : Fault) → IsNo shape bytes fault → IsSomeTraceFor shape bytes
+trace_of_no shape bytes fault is = record { memory = is.memory; logs = is.logs; trace = is.trace }
+
+module _ (shape : Shape) (bytes : List ℕ) (of : IsSomeTraceFor shape bytes) (packing : Packing)
     (has : IsPacking bytes packing) where
-  -- The packing is of the trace that the no is of.
-  same : (has.header ≡ is.trace.header) × (packing.memory.items ≡ is.memory)
-      × (packing.records.records ≡ is.trace.records)
-  same = bytes_are_of_one_trace bytes has.header is.trace.header packing.memory.items is.memory
-      packing.records.records is.trace.records has.trace is.trace.trace
+  -- The packing is of that trace.
+  same : (has.header ≡ of.trace.header) × (packing.memory.items ≡ of.memory)
+      × (packing.records.records ≡ of.trace.records)
+  same = bytes_are_of_one_trace bytes has.header of.trace.header packing.memory.items of.memory
+      packing.records.records of.trace.records has.trace of.trace.trace
 
   -- Its records fit the shape.
   pub packing_fits : AllByRecursion (Fits shape) packing.records.records
   packing_fits =
       subst (λ (rs : List Record). AllByRecursion (Fits shape) rs) (sym same.2)
-      (records_fit shape is.trace.header is.memory is.trace.records is.trace.trace.fits is.trace.agrees)
+      (records_fit shape of.trace.header of.memory of.trace.records of.trace.trace.fits of.trace.agrees)
 
   -- What was found in it is why the trace is not legal.
-  pub is_not_legal : (time : ℕ → ℕ → Option (List ℕ)) (most : ℕ) (earliest : Option Broken) (why : NotLegal)
-      → IsEarliestIf shape bytes earliest → why.records.records ≡ packing.records.records
+  pub is_not_legal : (time : ℕ → ℕ → Option (List ℕ)) (most : ℕ) (fault : Fault) (earliest : Option Broken)
+      (why : NotLegal) → IsEarliestIf shape bytes earliest → why.records.records ≡ packing.records.records
       → besides why.marks ≡ besides_of time packing.start packing.records.records
-      → IsCause shape packing.memory.items why.records.records most fault why.fault
+      → IsCause shape packing.memory.items why.records.records most fault why.fault → why.upon ≡ upon_of earliest
       → IsFirstCause shape packing.memory.items why.records.records most fault earliest why.first
-      → IsNotLegal shape bytes time most fault why
-  is_not_legal time most earliest why first_is records marks cause first = record {
-    memory = is.memory;
-    logs = is.logs;
-    trace = is.trace;
-    earliest = earliest;
+      → IsNotLegal shape bytes time most fault earliest why
+  is_not_legal time most fault earliest why first_is records marks cause upon first = record {
+    of = of;
     is_earliest = first_is;
     records = records ∙ same.2;
     marks = marks ∙ ap (λ (start : ℕ). besides_of time start packing.records.records) has.first
         ∙ ap (λ (h : Header). besides_of time (first_offset h packing.memory.items) packing.records.records) same.0
-        ∙ ap (λ (m : List (ℕ × Bytes)). besides_of time (first_offset is.trace.header m) packing.records.records) same.1
-        ∙ ap (besides_of time (first_offset is.trace.header is.memory)) same.2;
+        ∙ ap (λ (m : List (ℕ × Bytes)). besides_of time (first_offset of.trace.header m) packing.records.records) same.1
+        ∙ ap (besides_of time (first_offset of.trace.header of.memory)) same.2;
     cause = subst (λ (m : List (ℕ × Bytes)). IsCause shape m why.records.records most fault why.fault) same.1 cause;
+    upon = upon;
     first = subst (λ (m : List (ℕ × Bytes)). IsFirstCause shape m why.records.records most fault earliest why.first)
         same.1 first;
   }

@@ -1,4 +1,5 @@
 -- For callers: which records are told of, and each text.
+pub mod BrokenBefore
 pub mod Cause
 pub mod NotComplete
 pub mod NotLegal

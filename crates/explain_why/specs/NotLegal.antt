@@ -10,9 +10,11 @@ use Rattle.lf_verdict.specs.declared.session.breaking.PartFault.{PartFault}
 use Rattle.lf_verdict.specs.declared.session.breaking.PartFault.TheVariants as parts
 use Rattle.lf_verdict.specs.declared.session.breaking.Broken.{Broken}
 use Rattle.lf_verdict.specs.declared.session.breaking.Broken.TheVariants as broken
+use Rattle.lf_verdict.specs.declared.session.breaking.Upon.{Upon}
 use Rattle.lf_verdict.specs.Breaking.{first_offset}
 use Rattle.lf_verdict.specs.Final.{IsEarliest, NoneBrokeInTrace}
 use Rattle.lf_verdict.specs.Legal.{IsTraceFor}
+use Rattle.lf_verdict.specs.Text.{upon_text}
 use Rattle.explain_why.specs.declared.cause.Cause.{Cause}
 use Rattle.explain_why.specs.declared.not_legal.NotLegal.{NotLegal}
 use Rattle.explain_why.specs.Cause.{HasBankOf, IsCause, cause_text}
@@ -32,6 +34,16 @@ names_place (faults.Port port at rule) (parts.Port port' at' rule') = port == po
 names_place (faults.Bank bank number rule) (parts.Bank bank' number' rule') = bank == bank' && number == number'
 names_place _ _ = false
 
+-- the fault that is told: that of the verdict, or where it is asked for what broke first
+abbrev pub told_fault : Bool → Fault → Option Broken → Fault
+told_fault true fault (Some (broken.Part part upon)) = as_fault part
+told_fault _ fault earliest = fault
+
+-- the record upon which something broke first
+abbrev pub upon_of : Option Broken → Option Upon
+upon_of (Some (broken.Part part upon)) = upon
+upon_of _ = None
+
 -- what broke is of a bank of the shape's, where it is of one
 abbrev pub HasBankOfFirst : Shape → Option Broken → Type 0
 HasBankOfFirst shape (Some (broken.Part part upon)) = HasBankOf shape (as_fault part)
@@ -50,7 +62,7 @@ abbrev pub IsCauseUnless : Bool → Shape → List (ℕ × Bytes) → List Recor
 IsCauseUnless true shape memory rs most fault cause = cause ≡ None
 IsCauseUnless false shape memory rs most fault cause = IsSomeCause shape memory rs most fault cause
 
--- Where something broke first whose place the verdict does not name, that is why.
+-- Where something broke first whose place the fault does not name, that is why.
 abbrev pub IsFirstCause : Shape → List (ℕ × Bytes) → List Record → ℕ → Fault → Option Broken → Option Cause → Type 0
 IsFirstCause shape memory rs most fault (Some (broken.Part part upon)) cause =
     IsCauseUnless (names_place fault part) shape memory rs most (as_fault part) cause
@@ -58,27 +70,37 @@ IsFirstCause shape memory rs most fault _ cause = cause ≡ None
 
 -- ---- why a trace is not legal
 
--- It has the records of the trace in the bytes, the offset and the time of each, why the fault stands among them, and
--- what broke first. A time is told by a log and a place in it.
-pub record IsNotLegal (shape : Shape) (bytes : List ℕ) (time : ℕ → ℕ → Option (List ℕ)) (most : ℕ) (fault : Fault)
-    (why : NotLegal) : Type 0 where
+-- The bytes are a trace for the shape.
+pub record IsSomeTraceFor (shape : Shape) (bytes : List ℕ) : Type 0 where
   pub memory : List (ℕ × Bytes)
   pub logs : List (List Record)
   pub trace : IsTraceFor shape bytes memory logs
-  pub earliest : Option Broken
-  pub is_earliest : IsEarliestIf shape bytes earliest
-  pub records : why.records.records ≡ trace.records
-  pub marks : besides why.marks ≡ besides_of time (first_offset trace.header memory) trace.records
-  pub cause : IsCause shape memory why.records.records most fault why.fault
-  pub first : IsFirstCause shape memory why.records.records most fault earliest why.first
 
--- what broke first, behind a heading of its own
-abbrev pub first_text : List Record → List Beside → Option Cause → List ℕ
-first_text rs marks None = []
-first_text rs marks (Some cause) =
-    10 ∷ codes "what broke first in the trace:" ++ 10 ∷ cause_text rs marks cause
+-- It has the records of the trace in the bytes, the offset and the time of each, why the fault stands among them, and
+-- of what broke first the record upon which it did, and why where the fault is another one. A time is told by a log and
+-- a place in it.
+pub record IsNotLegal (shape : Shape) (bytes : List ℕ) (time : ℕ → ℕ → Option (List ℕ)) (most : ℕ) (fault : Fault)
+    (earliest : Option Broken) (why : NotLegal) : Type 0 where
+  pub of : IsSomeTraceFor shape bytes
+  pub is_earliest : IsEarliestIf shape bytes earliest
+  pub records : why.records.records ≡ of.trace.records
+  pub marks : besides why.marks ≡ besides_of time (first_offset of.trace.header of.memory) of.trace.records
+  pub cause : IsCause shape of.memory why.records.records most fault why.fault
+  pub upon : why.upon ≡ upon_of earliest
+  pub first : IsFirstCause shape of.memory why.records.records most fault earliest why.first
+
+-- ---- its text
+
+-- the heading of what broke first, with the record upon which it did
+abbrev pub first_heading : Option Upon → List ℕ
+first_heading upon = 10 ∷ codes "what broke first in the trace" ++ upon_text upon ++ codes ":" ++ 10 ∷ []
+
+-- what broke first, behind that heading
+abbrev pub first_text : List Record → List Beside → Option Upon → Option Cause → List ℕ
+first_text rs marks upon None = []
+first_text rs marks upon (Some cause) = first_heading upon ++ cause_text rs marks cause
 
 abbrev pub not_legal_text : NotLegal → List ℕ
 not_legal_text why =
     let marks = besides why.marks in
-    cause_text why.records.records marks why.fault ++ first_text why.records.records marks why.first
+    cause_text why.records.records marks why.fault ++ first_text why.records.records marks why.upon why.first

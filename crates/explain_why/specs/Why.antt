@@ -1,7 +1,8 @@
 -- Why a verdict is what it is.
-use Rattle.std.specs.Prelude.{◌≡◌, ℕ, Bool, true, false, List, length, take, Option, Some, None}
+use Rattle.std.specs.Prelude.{◌≡◌, ℕ, Bool, true, false, List, length, take, ◌++◌, Option, Some, None}
 use Rattle.lf_rules.specs.declared.shape.Shape.{Shape}
 use Rattle.lf_rules.specs.declared.event.Record.{Record}
+use Rattle.lf_codec.specs.declared.fault.CodecFault.{CodecFault}
 use Rattle.lf_codec.specs.Reading.{reading_of}
 use Rattle.lf_codec.specs.Steps.{header_at}
 use Rattle.explain_refusal.specs.Format.{refusal_text}
@@ -21,8 +22,9 @@ use Rattle.lf_verdict.specs.Outcome.{IsDecidedOutcome, IsOutcomeOf}
 use Rattle.explain_why.specs.declared.why.Why.{Why}
 use Rattle.explain_why.specs.declared.why.Why.TheVariants.{No, Yes, NotComplete, Format, Header}
 use Rattle.lf_verdict.specs.Incomplete.{IsIncompleteIn}
+use Rattle.explain_why.specs.BrokenBefore.{HasBrokenBefore, broken_before_text}
 use Rattle.explain_why.specs.NotComplete.{IsNotComplete, not_complete_text}
-use Rattle.explain_why.specs.NotLegal.{IsEarliestIf, IsNotLegal, not_legal_text}
+use Rattle.explain_why.specs.NotLegal.{IsEarliestIf, IsNotLegal, told_fault, not_legal_text}
 
 -- This is what the logs of the trace in the bytes use at most.
 pub record IsUsageOf (shape : Shape) (bytes : List ℕ) (usage : Usage) : Type 0 where
@@ -64,25 +66,37 @@ IsWhyOfLegal shape bytes time most (Some found) (NotComplete why) = IsNotComplet
 IsWhyOfLegal shape bytes time most None (Yes usage) = IsUsageOf shape bytes usage
 IsWhyOfLegal shape bytes time most _ _ = ⊥
 
--- That is why the judgement of these bytes is what it is.
-abbrev pub IsWhy : Shape → List ℕ → (ℕ → ℕ → Option (List ℕ)) → ℕ → Outcome → Option Incomplete → Why → Type 0
-IsWhy shape bytes time most (outcomes.No fault) incomplete (No why) = IsNotLegal shape bytes time most fault why
-IsWhy shape bytes time most (outcomes.Yes events) incomplete why =
-    IsWhyOfLegal shape bytes time most incomplete why
-IsWhy shape bytes time most (outcomes.Refused (refusals.Format fault)) incomplete (Format told count) =
+-- Why bytes are no trace: the fault, how many event records stand before it, and what broke first in those.
+abbrev pub IsWhyOfFormat : Shape → List ℕ → (ℕ → ℕ → Option (List ℕ)) → ℕ → CodecFault → Why → Type 0
+IsWhyOfFormat shape bytes time most fault (Format told count broken) =
     (told ≡ fault) × (count ≡ records_before bytes fault.offset)
-IsWhy shape bytes time most (outcomes.Refused (refusals.Header field)) incomplete Header = Unit {0}
-IsWhy shape bytes time most _ incomplete _ = ⊥
+    × HasBrokenBefore shape (take fault.offset bytes) time most broken
+IsWhyOfFormat shape bytes time most fault _ = ⊥
+
+-- That is why the judgement of these bytes is what it is, where `first` says whether what broke first is told in the
+-- place of the verdict's fault.
+abbrev pub IsWhy : Shape → List ℕ → (ℕ → ℕ → Option (List ℕ)) → ℕ → Bool → Outcome → Option Broken → Option Incomplete →
+    Why → Type 0
+IsWhy shape bytes time most first (outcomes.No fault) earliest incomplete (No why) =
+    IsNotLegal shape bytes time most (told_fault first fault earliest) earliest why
+IsWhy shape bytes time most first (outcomes.Yes events) earliest incomplete why =
+    IsWhyOfLegal shape bytes time most incomplete why
+IsWhy shape bytes time most first (outcomes.Refused (refusals.Format fault)) earliest incomplete why =
+    IsWhyOfFormat shape bytes time most fault why
+IsWhy shape bytes time most first (outcomes.Refused (refusals.Header field)) earliest incomplete Header = Unit {0}
+IsWhy shape bytes time most first _ earliest incomplete _ = ⊥
 
 -- It is there exactly where it is told.
-abbrev pub HasWhy : Shape → List ℕ → (ℕ → ℕ → Option (List ℕ)) → ℕ → Outcome → Option Incomplete → Option Why → Type 0
-HasWhy shape bytes time most o incomplete (Some why) =
-    (is_told o ≡ true) × IsWhy shape bytes time most o incomplete why
-HasWhy shape bytes time most o incomplete None = is_told o ≡ false
+abbrev pub HasWhy : Shape → List ℕ → (ℕ → ℕ → Option (List ℕ)) → ℕ → Bool → Outcome → Option Broken →
+    Option Incomplete → Option Why → Type 0
+HasWhy shape bytes time most first o earliest incomplete (Some why) =
+    (is_told o ≡ true) × IsWhy shape bytes time most first o earliest incomplete why
+HasWhy shape bytes time most first o earliest incomplete None = is_told o ≡ false
 
 abbrev pub why_text : Shape → List ℕ → Why → List ℕ
 why_text shape bytes (No why) = not_legal_text why
 why_text shape bytes (Yes usage) = usage_text shape usage
 why_text shape bytes (NotComplete why) = not_complete_text why
-why_text shape bytes (Format fault count) = refusal_text bytes fault.cause fault.offset count
+why_text shape bytes (Format fault count broken) =
+    refusal_text bytes fault.cause fault.offset count ++ broken_before_text broken
 why_text shape bytes Header = header_text (header_at bytes) shape

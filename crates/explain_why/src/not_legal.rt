@@ -8,7 +8,7 @@ ghost use Rattle.explain_lines.specs.Marks.{told_by};
 ghost use Rattle.lf_verdict.specs.Outcome.{IsNo};
 ghost use Rattle.explain_why.specs.Cause.{HasBankOf};
 ghost use Rattle.explain_why.specs.NotLegal.{as_fault, names_place, HasBankOfFirst, IsEarliestIf, IsFirstCause};
-ghost use Rattle.explain_why.specs.NotLegal.{IsNotLegal};
+ghost use Rattle.explain_why.specs.NotLegal.{told_fault, upon_of, IsSomeTraceFor, IsNotLegal};
 
 use crate::cause::{Cause, Contents, cause_of};
 use crate::why::Asked;
@@ -16,7 +16,7 @@ use crate::{Packing, packed_in};
 use explain_lines::{Marks, marks_of};
 use lf_codec::Packed;
 use lf_rules::{NoMemory, Shape};
-use lf_verdict::{Broken, Fault, PartFault};
+use lf_verdict::{Broken, Fault, PartFault, Upon};
 use std::alloc::Global;
 
 /// Why a trace is not legal.
@@ -26,20 +26,32 @@ pub struct NotLegal {
     pub records: Packed,
     /// What stands beside each record.
     pub marks: Marks,
-    /// Why the fault stands that the verdict names.
+    /// Why the fault stands that is told.
     pub fault: Cause,
-    /// Why what broke first stands, where the verdict does not name its place.
+    /// The record upon which something broke first.
+    pub upon: Option<Upon>,
+    /// Why what broke first stands, where the fault that is told does not name its place.
     pub first: Option<Cause>,
 }
 
 /// A fault of a part, as a verdict names it.
-fn as_fault(part: &PartFault) -> Fault
+pub(crate) fn as_fault(part: &PartFault) -> Fault
     ensures { result ≡ as_fault part.now }
 {
     match *part {
         PartFault::Double { bank, k } => Fault::Double { bank, k },
         PartFault::Port { port, at, rule } => Fault::Port { port, at, rule },
         PartFault::Bank { bank, number, rule } => Fault::Bank { bank, number, rule },
+    }
+}
+
+/// The record upon which something broke first.
+fn upon_of(earliest: &Option<Broken>) -> Option<Upon>
+    ensures { result ≡ upon_of earliest.now }
+{
+    match earliest {
+        Some(Broken::Part { upon, .. }) => *upon,
+        _ => None,
     }
 }
 
@@ -64,7 +76,7 @@ fn names_place(fault: &Fault, part: &PartFault) -> bool
     }
 }
 
-/// Why what broke first stands, where the verdict does not name its place.
+/// Why what broke first stands, where the fault does not name its place.
 fn first_cause(
     alloc: Global,
     shape: &Shape,
@@ -87,8 +99,8 @@ fn first_cause(
     }
 }
 
-/// Why the trace in these bytes is not legal.
-pub(crate) fn not_legal(
+/// Why the trace in these bytes is not legal, by this fault.
+fn by_fault(
     alloc: Global,
     shape: &Shape,
     bytes: &[u8],
@@ -97,9 +109,11 @@ pub(crate) fn not_legal(
     asked: &Asked<'_>,
 ) -> Result<NotLegal, NoMemory>
     requires in_range { IsShape shape.now }
-    requires no { IsNo shape.now bytes.now fault.now }
+    requires trace { IsSomeTraceFor shape.now bytes.now }
+    requires bank { HasBankOf shape.now fault.now }
     requires earliest { IsEarliestIf shape.now bytes.now earliest.now }
-    ensures { IfOk result (IsNotLegal shape.now bytes.now (told_by asked.now.times) asked.now.most fault.now) }
+    ensures { IfOk result (IsNotLegal shape.now bytes.now (told_by asked.now.times) asked.now.most fault.now
+        earliest.now) }
 {
     let Asked { most, times, .. } = *asked;
     let Packing {
@@ -118,6 +132,31 @@ pub(crate) fn not_legal(
         records,
         marks,
         fault,
+        upon: upon_of(earliest),
         first,
     })
+}
+
+/// Why the trace in these bytes is not legal: by the fault of the verdict, or where it is asked for by what broke
+/// first.
+pub(crate) fn not_legal(
+    alloc: Global,
+    shape: &Shape,
+    bytes: &[u8],
+    fault: &Fault,
+    earliest: &Option<Broken>,
+    asked: &Asked<'_>,
+) -> Result<NotLegal, NoMemory>
+    requires in_range { IsShape shape.now }
+    requires no { IsNo shape.now bytes.now fault.now }
+    requires earliest { IsEarliestIf shape.now bytes.now earliest.now }
+    ensures { IfOk result (IsNotLegal shape.now bytes.now (told_by asked.now.times) asked.now.most
+        (told_fault asked.now.first fault.now earliest.now) earliest.now) }
+{
+    match earliest {
+        Some(Broken::Part { fault: part, .. }) if asked.first => {
+            by_fault(alloc, shape, bytes, &as_fault(part), earliest, asked)
+        }
+        _ => by_fault(alloc, shape, bytes, fault, earliest, asked),
+    }
 }

@@ -1,15 +1,18 @@
 //! The records of a trace in the form of their bytes.
 
-ghost use Rattle.std.specs.Prelude.{◌≡◌, ℕ, List, IfOk};
+ghost use Rattle.std.specs.Prelude.{◌≡◌, ℕ, List, [], None, IfOk};
 ghost use Rattle.lf_rules.specs.declared.event.Record.{Record};
 ghost use Rattle.lf_rules.specs.Fits.{Bytes};
 ghost use Rattle.lf_codec.specs.Laws.{IsSomeTrace};
+ghost use Rattle.lf_codec.specs.Reader.{HasRead};
+ghost use Rattle.lf_codec.specs.Reading.{fault_so_far};
 ghost use Rattle.lf_codec.specs.Trace.{FitsTrace};
 ghost use Rattle.lf_verdict.specs.Breaking.{first_offset};
-ghost use Rattle.explain_why.specs.Packing.{IsPacking};
+ghost use Rattle.explain_why.specs.Packing.{IsPacking, HasMemory, IsPackingSoFar};
+ghost use Rattle.explain_why.specs.Taken.{HasTakenAll};
 
 use crate::parts::take_memory;
-use lf_codec::{Header, Packed, Reader};
+use lf_codec::{Header, Packed, Reader, read_so_far};
 use lf_rules::{Memory, NoMemory};
 use std::alloc::Global;
 
@@ -30,20 +33,49 @@ fn first_record_at(header: &Header) -> u64
     16 + u64::from(header.memory_count) * (4 + u64::from(header.block))
 }
 
-/// The memory and the records of the trace in these bytes. A record takes about the room of its bytes.
+/// Reads the bytes, which have no fault, by a reader that has read nothing, and takes what it finds. A record takes
+/// about the room of its bytes.
+fn pack_all(alloc: Global, reader: &mut Reader, bytes: &[u8]) -> Result<(Memory, Packed), NoMemory>
+    requires { HasRead reader.old [] [] [] }
+    ensures { IfOk result (λ all. HasTakenAll reader.new bytes.now all.0.items all.1.records) }
+{
+    let mut records = Packed::new(alloc);
+    // There is no fault, so a refusal is that memory ran out.
+    let Ok(()) = reader.pack(bytes, &mut records) else {
+        return Err(NoMemory);
+    };
+    let mut memory = Vec::new(alloc);
+    take_memory(reader, &mut memory)?;
+    Ok((memory, records))
+}
+
+/// The memory and the records of the trace in these bytes.
 pub fn packed_in(alloc: Global, bytes: &[u8]) -> Result<Packing, NoMemory>
     requires { IsSomeTrace bytes.now }
     ensures { IfOk result (IsPacking bytes.now) }
 {
     let mut reader = Reader::new(alloc);
-    let mut records = Packed::new(alloc);
-    // A trace has no fault, so a refusal is that memory ran out.
-    let Ok(()) = reader.pack(bytes, &mut records) else {
-        return Err(NoMemory);
-    };
-    let mut memory = Vec::new(alloc);
-    take_memory(&mut reader, &mut memory)?;
+    let (memory, records) = pack_all(alloc, &mut reader, bytes)?;
     let Ok(header) = reader.finish() else {
+        unreachable!()
+    };
+    Ok(Packing {
+        start: first_record_at(&header),
+        memory,
+        records,
+    })
+}
+
+/// The memory and the records in these bytes, which begin a trace and have no fault so far.
+pub(crate) fn packed_so_far(alloc: Global, bytes: &[u8]) -> Result<Packing, NoMemory>
+    requires fine { fault_so_far bytes.now ≡ None }
+    requires memory { HasMemory bytes.now }
+    ensures { IfOk result (IsPackingSoFar bytes.now) }
+{
+    read_so_far();
+    let mut reader = Reader::new(alloc);
+    let (memory, records) = pack_all(alloc, &mut reader, bytes)?;
+    let Some(header) = reader.header() else {
         unreachable!()
     };
     Ok(Packing {

@@ -5,15 +5,17 @@ ghost use Rattle.explain_lines.specs.Marks.{told_by};
 ghost use Rattle.lf_rules.specs.InRange.{IsShape};
 ghost use Rattle.explain_why.specs.Logs.{IsCountable};
 ghost use Rattle.lf_verdict.specs.Incomplete.{IsIncompleteIn};
-ghost use Rattle.explain_why.specs.Why.{records_before, IsJudgement, IsUsageOf, IsWhyOfLegal, HasWhy};
+ghost use Rattle.lf_codec.specs.Reading.{trace_fault};
+ghost use Rattle.explain_why.specs.Why.{records_before, IsJudgement, IsUsageOf, IsWhyOfLegal, IsWhyOfFormat, HasWhy};
 
+use crate::broken_before::{BrokenBefore, broken_before};
 use crate::not_complete::{NotComplete, not_complete};
 use crate::not_legal::{NotLegal, not_legal};
 use crate::{packed_logs_in, records_in};
 use count_usage::{Usage, usage_of};
 use explain_lines::Times;
 use explain_refusal::up_to;
-use lf_codec::CodecFault;
+use lf_codec::{CodecFault, before_a_fault, fault_so_far, faults_stand};
 use lf_rules::{NoMemory, Shape};
 use lf_verdict::{Broken, Incomplete, Outcome, Refusal};
 use std::alloc::Global;
@@ -27,8 +29,12 @@ pub enum Why {
     Yes(Usage),
     /// Why a legal trace is not complete.
     NotComplete(NotComplete),
-    /// Where bytes are no trace, and how many event records stand before.
-    Format { fault: CodecFault, count: u64 },
+    /// Where bytes are no trace, how many event records stand before, and what broke first in those.
+    Format {
+        fault: CodecFault,
+        count: u64,
+        broken: Option<BrokenBefore>,
+    },
     /// The trace is of another hierarchy.
     Header,
 }
@@ -42,6 +48,8 @@ pub struct Asked<'a> {
     pub times: Option<&'a Times>,
     /// Whether each request of a legal trace has to have a reply.
     pub complete: bool,
+    /// Whether of a no what broke first is told in the place of the verdict's fault.
+    pub first: bool,
 }
 
 /// What judging the bytes of a trace came to.
@@ -91,6 +99,29 @@ fn why_of_legal(
     }
 }
 
+/// Why the bytes are no trace, by their fault.
+fn why_of_format(
+    alloc: Global,
+    shape: &Shape,
+    bytes: &[u8],
+    fault: CodecFault,
+    asked: &Asked<'_>,
+) -> Result<Why, NoMemory>
+    requires in_range { IsShape shape.now }
+    requires fault { trace_fault bytes.now ≡ Some fault }
+    ensures { IfOk result (IsWhyOfFormat shape.now bytes.now (told_by asked.now.times) asked.now.most fault) }
+{
+    fault_so_far();
+    faults_stand();
+    before_a_fault();
+    let broken = broken_before(alloc, shape, up_to(bytes, fault.offset), asked)?;
+    Ok(Why::Format {
+        fault,
+        count: records_before(alloc, bytes, fault.offset)?,
+        broken,
+    })
+}
+
 /// Why the judgement of these bytes is what it is. A refused configuration, a refused number of workers, and that
 /// memory ran out or a thread was refused are not told of.
 pub fn why_of(
@@ -103,8 +134,8 @@ pub fn why_of(
     requires in_range { IsShape shape.now }
     requires judged { IsJudgement shape.now bytes.now judged.now.outcome.now judged.now.earliest.now
         judged.now.incomplete }
-    ensures { IfOk result (HasWhy shape.now bytes.now (told_by asked.now.times) asked.now.most judged.now.outcome.now
-        judged.now.incomplete) }
+    ensures { IfOk result (HasWhy shape.now bytes.now (told_by asked.now.times) asked.now.most asked.now.first
+        judged.now.outcome.now judged.now.earliest.now judged.now.incomplete) }
 {
     let Judgement {
         outcome,
@@ -117,10 +148,9 @@ pub fn why_of(
             Ok(Some(Why::No(why)))
         }
         Outcome::Yes { .. } => Ok(Some(why_of_legal(alloc, shape, bytes, incomplete, asked)?)),
-        Outcome::Refused(Refusal::Format(fault)) => Ok(Some(Why::Format {
-            fault: *fault,
-            count: records_before(alloc, bytes, fault.offset)?,
-        })),
+        Outcome::Refused(Refusal::Format(fault)) => {
+            Ok(Some(why_of_format(alloc, shape, bytes, *fault, asked)?))
+        }
         Outcome::Refused(Refusal::Header(_)) => Ok(Some(Why::Header)),
         Outcome::Refused(_) => Ok(None),
     }

@@ -17,7 +17,7 @@ use Rattle.explain_why.specs.declared.why.Why.{Why}
 use Rattle.explain_why.specs.Why.{is_told_of_refusal, is_told, IsIncompleteIf, IsJudgement, IsWhy, why_text}
 use Rattle.explain_why.proofs.Earliest.{earliest_of}
 use Rattle.run_engine.specs.Needs.{bytes_needs}
-use Rattle.run_report.specs.Explain.{Times, told_if, answer_text, TellsBehindLine, IsToldOf, IsExplained}
+use Rattle.run_report.specs.Explain.{Times, told_if, headline_text, TellsBehindLine, IsToldOf, IsExplained}
 
 never : {T : Type 0} → false ≡ true → T
 never same = absurd (cc)
@@ -75,20 +75,20 @@ judgement complete shape bytes c is same = record {
   is_incomplete = incomplete_at complete shape c.fed.bytes bytes c.outcome c.incomplete same is.incomplete;
 }
 
-module _ {E : Type 0} (shape : Shape) (time : Times) (most : ℕ) (complete : Bool) (c : Conclusion) (bytes : List ℕ)
-    (found : Option Incomplete) (why : Why) where
+module _ {E : Type 0} (shape : Shape) (time : Times) (most : ℕ) (complete first : Bool) (c : Conclusion)
+    (bytes : List ℕ) (found : Option Incomplete) (why : Why) where
   -- The text that has the line and behind it why is due.
   pub told_behind : (line : List ℕ) (r : Result (String Global) E) → found ≡ told_if complete c.incomplete
-      → is_told c.outcome ≡ true → IsWhy shape bytes time most c.outcome found why
-      → (IsDecidedOutcome c.outcome → bytes ≡ c.fed.bytes) → line ≡ answer_text c.outcome found
+      → is_told c.outcome ≡ true → IsWhy shape bytes time most first c.outcome c.broken found why
+      → (IsDecidedOutcome c.outcome → bytes ≡ c.fed.bytes) → line ≡ headline_text first c.outcome c.broken found
       → IfOk r (λ text. string_bytes text ≡ line ++ 10 ∷ 10 ∷ why_text shape bytes why)
-      → IfOk r (λ text. IsExplained time most complete (Some shape) c (string_bytes text))
+      → IfOk r (λ text. IsExplained time most complete first (Some shape) c (string_bytes text))
   told_behind line (Ok text) same told is own line_is text_is =
-      subst (λ (t : Bool). IsToldOf shape c.fed.bytes time most c.outcome (told_if complete c.incomplete) t
-      (string_bytes text)) (sym told)
-      (subst (λ (f : Option Incomplete). TellsBehindLine shape c.fed.bytes time most c.outcome f (string_bytes text))
-      same
-      (subst (λ (b : List ℕ). TellsBehindLine shape b time most c.outcome found (string_bytes text))
+      subst (λ (t : Bool). IsToldOf shape c.fed.bytes time most first c.outcome c.broken
+      (told_if complete c.incomplete) t (string_bytes text)) (sym told)
+      (subst (λ (f : Option Incomplete). TellsBehindLine shape c.fed.bytes time most first c.outcome c.broken f
+      (string_bytes text)) same
+      (subst (λ (b : List ℕ). TellsBehindLine shape b time most first c.outcome c.broken found (string_bytes text))
       (own (decided c.outcome told)) (record {
         why = why;
         is_why = is;

@@ -4,6 +4,10 @@ use Rattle.lf_rules.specs.declared.shape.Shape.{Shape}
 use Rattle.lf_logs.specs.declared.incomplete.Incomplete.{Incomplete}
 use Rattle.lf_logs.specs.Incomplete.{incomplete_text}
 use Rattle.lf_verdict.specs.declared.answer.Outcome.{Outcome}
+use Rattle.lf_verdict.specs.declared.answer.Outcome.TheVariants.{No}
+use Rattle.lf_verdict.specs.declared.session.breaking.Broken.{Broken}
+use Rattle.lf_verdict.specs.declared.session.breaking.Broken.TheVariants.{Part}
+use Rattle.lf_verdict.specs.Text.{broken_text}
 use Rattle.lf_verdict.specs.declared.session.conclusion.Conclusion.{Conclusion}
 use Rattle.explain_why.specs.declared.why.Why.{Why}
 use Rattle.explain_why.specs.Why.{is_told, IsWhy, why_text}
@@ -23,19 +27,32 @@ abbrev pub answer_text : Outcome → Option Incomplete → List ℕ
 answer_text outcome (Some found) = codes "no " ++ incomplete_text found
 answer_text outcome None = outcome_text outcome
 
+-- the line of what broke first, or this one where it was no record
+abbrev pub first_text : Option Broken → List ℕ → List ℕ
+first_text (Some (Part part upon)) line = codes "broken " ++ broken_text (Part part upon)
+first_text earliest line = line
+
+-- that line, or of a no where that is asked for the line of what broke first
+abbrev pub headline_text : Bool → Outcome → Option Broken → Option Incomplete → List ℕ
+headline_text false outcome earliest found = answer_text outcome found
+headline_text true (No fault) earliest found = first_text earliest (answer_text (No fault) found)
+headline_text true outcome earliest found = answer_text outcome found
+
 -- The text has that line, and after an empty line it tells why.
-pub record TellsBehindLine (shape : Shape) (bytes : List ℕ) (time : Times) (most : ℕ) (outcome : Outcome)
-    (found : Option Incomplete) (text : List ℕ) : Type 0 where
+pub record TellsBehindLine (shape : Shape) (bytes : List ℕ) (time : Times) (most : ℕ) (first : Bool) (outcome : Outcome)
+    (earliest : Option Broken) (found : Option Incomplete) (text : List ℕ) : Type 0 where
   pub why : Why
-  pub is_why : IsWhy shape bytes time most outcome found why
-  pub lines : text ≡ answer_text outcome found ++ 10 ∷ 10 ∷ why_text shape bytes why
+  pub is_why : IsWhy shape bytes time most first outcome earliest found why
+  pub lines : text ≡ headline_text first outcome earliest found ++ 10 ∷ 10 ∷ why_text shape bytes why
 
 -- Where it is told why, the text tells it, and otherwise it is the line of the verdict.
-abbrev pub IsToldOf : Shape → List ℕ → Times → ℕ → Outcome → Option Incomplete → Bool → List ℕ → Type 0
-IsToldOf shape bytes time most outcome found true text = TellsBehindLine shape bytes time most outcome found text
-IsToldOf shape bytes time most outcome found false text = text ≡ line_of outcome
+abbrev pub IsToldOf : Shape → List ℕ → Times → ℕ → Bool → Outcome → Option Broken → Option Incomplete → Bool → List ℕ →
+    Type 0
+IsToldOf shape bytes time most first outcome earliest found true text =
+    TellsBehindLine shape bytes time most first outcome earliest found text
+IsToldOf shape bytes time most first outcome earliest found false text = text ≡ line_of outcome
 
-abbrev pub IsExplained : Times → ℕ → Bool → Option Shape → Conclusion → List ℕ → Type 0
-IsExplained time most complete (Some shape) c text = IsToldOf shape c.fed.bytes time most c.outcome
-    (told_if complete c.incomplete) (is_told c.outcome) text
-IsExplained time most complete None c text = text ≡ line_of c.outcome
+abbrev pub IsExplained : Times → ℕ → Bool → Bool → Option Shape → Conclusion → List ℕ → Type 0
+IsExplained time most complete first (Some shape) c text = IsToldOf shape c.fed.bytes time most first c.outcome
+    c.broken (told_if complete c.incomplete) (is_told c.outcome) text
+IsExplained time most complete first None c text = text ≡ line_of c.outcome

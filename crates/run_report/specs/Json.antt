@@ -7,9 +7,10 @@ use Rattle.lf_logs.specs.declared.incomplete.Incomplete.{Incomplete}
 use Rattle.lf_verdict.specs.declared.answer.Outcome.{Outcome}
 use Rattle.lf_verdict.specs.declared.answer.Outcome.TheVariants.{Refused}
 use Rattle.lf_verdict.specs.declared.answer.Refusal.TheVariants.{Memory}
+use Rattle.lf_verdict.specs.declared.session.breaking.Broken.{Broken}
 use Rattle.lf_verdict.specs.declared.session.conclusion.Conclusion.{Conclusion}
 use Rattle.explain_json.specs.Answer.{word_of, told, IsAnswer}
-use Rattle.run_report.specs.Explain.{told_if, answer_text}
+use Rattle.run_report.specs.Explain.{told_if, headline_text}
 
 -- an object with a line alone, which is that of a refusal
 abbrev pub bare : List ℕ → List ℕ
@@ -21,10 +22,11 @@ is_complete (Some found) = false
 is_complete None = true
 
 -- The text is an object with the line and the word of the answer.
-abbrev pub IsJsonOf : Outcome → Option Incomplete → List ℕ → Type 0
-IsJsonOf outcome found text = IsAnswer (answer_text outcome found) (word_of outcome (is_complete found)) text
+abbrev pub IsJsonOf : Bool → Outcome → Option Broken → Option Incomplete → List ℕ → Type 0
+IsJsonOf first outcome earliest found text =
+    IsAnswer (headline_text first outcome earliest found) (word_of outcome (is_complete found)) text
 
 -- ... or memory ran out, and it has the line alone.
-abbrev pub IsJson : Bool → Option Shape → Conclusion → List ℕ → Type 0
-IsJson complete shape c text = IsJsonOf c.outcome (told_if complete c.incomplete) text
+abbrev pub IsJson : Bool → Bool → Option Shape → Conclusion → List ℕ → Type 0
+IsJson complete first shape c text = IsJsonOf first c.outcome c.broken (told_if complete c.incomplete) text
     ⊎ ((c.outcome ≡ Refused Memory) × (text ≡ bare (codes "refused memory")))

@@ -3,11 +3,12 @@
 ghost use Rattle.std.specs.Prelude.{◌≡◌, IfOk, Some, None, string_bytes};
 ghost use Rattle.run_report.specs.Json.{IsJsonOf};
 
-use crate::explain::{line_for, told_if};
+use crate::explain::told_if;
+use crate::headline::headline_of;
 use explain_json::{Answer, Told, explained_json, no_memory_json, not_read_json};
 use explain_why::{Asked, Judgement, why_of};
 use lf_rules::{NoMemory, Shape};
-use lf_verdict::{Conclusion, Incomplete, Outcome};
+use lf_verdict::Conclusion;
 use run_engine::{Ask, Needs};
 use std::alloc::Global;
 
@@ -21,22 +22,23 @@ pub struct Json<'a> {
     pub config: &'a str,
 }
 
-/// The object of an outcome, and of why it is what it is where that is told.
+/// The object of a judgement, and of why it is what it is where that is told.
 fn json_of(
     alloc: Global,
-    outcome: &Outcome,
-    found: Option<Incomplete>,
+    first: bool,
+    judged: &Judgement<'_>,
     config: &str,
     told: Option<Told<'_>>,
 ) -> Result<String, NoMemory>
-    ensures { IfOk result (λ text. IsJsonOf outcome.now found (string_bytes text)) }
+    ensures { IfOk result (λ text. IsJsonOf first judged.now.outcome.now judged.now.earliest.now judged.now.incomplete
+        (string_bytes text)) }
 {
-    let line = line_for(outcome, found);
+    let line = headline_of(first, judged);
     let line = format!(in alloc; "{line}")?;
     let answer = Answer {
         line: line.as_str(),
-        outcome,
-        is_complete: found.is_none(),
+        outcome: judged.outcome,
+        is_complete: judged.incomplete.is_none(),
         config,
         told,
     };
@@ -50,7 +52,7 @@ impl Ask for Json<'_> {
 
     ghost needs_of = { λ _. bytes_needs true };
 
-    ghost is_due = { λ ask shape conclusion text. IsJson ask.asked.complete shape conclusion text };
+    ghost is_due = { λ ask shape conclusion text. IsJson ask.asked.complete ask.asked.first shape conclusion text };
 
     ghost lost = { bare (codes "refused read trace") };
 
@@ -70,11 +72,6 @@ impl Ask for Json<'_> {
             earliest: &conclusion.broken,
             incomplete: told_if(self.asked.complete, conclusion.incomplete),
         };
-        let Judgement {
-            outcome,
-            incomplete,
-            ..
-        } = judged;
         match why_of(alloc, shape, bytes, &judged, &self.asked)? {
             Some(why) => {
                 let told = Told {
@@ -82,15 +79,19 @@ impl Ask for Json<'_> {
                     bytes,
                     why: &why,
                 };
-                json_of(alloc, outcome, incomplete, self.config, Some(told))
+                json_of(alloc, self.asked.first, &judged, self.config, Some(told))
             }
-            None => json_of(alloc, outcome, incomplete, self.config, None),
+            None => json_of(alloc, self.asked.first, &judged, self.config, None),
         }
     }
 
     fn refused(&self, alloc: Global, conclusion: &Conclusion) -> Result<String, NoMemory> {
-        let found = told_if(self.asked.complete, conclusion.incomplete);
-        json_of(alloc, &conclusion.outcome, found, self.config, None)
+        let judged = Judgement {
+            outcome: &conclusion.outcome,
+            earliest: &conclusion.broken,
+            incomplete: told_if(self.asked.complete, conclusion.incomplete),
+        };
+        json_of(alloc, self.asked.first, &judged, self.config, None)
     }
 
     fn no_memory(&self) -> &'static [u8] {

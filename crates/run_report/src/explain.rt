@@ -3,13 +3,14 @@
 ghost use Rattle.std.specs.Prelude.{◌≡◌, ◌∷◌, ◌++◌, IfOk, string_bytes};
 ghost use Rattle.explain_lines.specs.Marks.{told_by};
 ghost use Rattle.explain_why.specs.Why.{why_text};
-ghost use Rattle.run_engine.specs.Line.{line_text};
-ghost use Rattle.run_report.specs.Explain.{told_if, answer_text};
+ghost use Rattle.run_report.specs.Explain.{told_if};
+ghost use Rattle.run_report.specs.Headline.{line_text};
 
+use crate::headline::{Headline, headline_of};
 use explain_why::{Asked, Judgement, WhyText, why_of};
 use lf_rules::{NoMemory, Shape};
-use lf_verdict::{Conclusion, Incomplete, Outcome};
-use run_engine::{Ask, Line, Needs, no_memory_line, not_read_line, outcome_line};
+use lf_verdict::{Conclusion, Incomplete};
+use run_engine::{Ask, Needs, no_memory_line, not_read_line, outcome_line};
 use std::alloc::Global;
 
 /// Why the verdict is what it is. The line of the verdict is written, an empty line, and then why:
@@ -22,10 +23,11 @@ use std::alloc::Global;
 /// - of a yes, what the trace used at most of what the configuration has; or, where complete traces are asked for and a
 ///   request has no reply, the first such request and the last records of its bank at its block, behind the line of
 ///   that request in the place of the verdict's;
-/// - of bytes that are no trace, the field that fails, and what it may have;
+/// - of bytes that are no trace, the field that fails, and what it may have; and what broke first before it;
 /// - of a trace of another hierarchy, the numbers that differ.
 ///
-/// A record is told with its time where there is one. Of a refused configuration nothing is told.
+/// A record is told with its time where there is one. Of a refused configuration nothing is told. Where it is asked
+/// for, of a no what broke first is told alone, behind its own line.
 #[derive(Clone, Copy)]
 pub struct Explain<'a> {
     pub asked: Asked<'a>,
@@ -38,18 +40,8 @@ pub fn told_if(complete: bool, found: Option<Incomplete>) -> Option<Incomplete>
     if complete { found } else { None }
 }
 
-/// The line of a request without a reply, or otherwise that of the verdict.
-pub fn line_for(outcome: &Outcome, found: Option<Incomplete>) -> Line<'_>
-    ensures { line_text result ≡ answer_text outcome.now found }
-{
-    match found {
-        Some(request) => Line::Incomplete(request),
-        None => Line::Concluded(outcome),
-    }
-}
-
 /// A line, and after an empty line why.
-fn behind_line(alloc: Global, line: Line<'_>, why: WhyText<'_>) -> Result<String, NoMemory>
+fn behind_line(alloc: Global, line: Headline<'_>, why: WhyText<'_>) -> Result<String, NoMemory>
     ensures { IfOk result (λ text. string_bytes text
         ≡ line_text line.entry ++ 10 ∷ 10 ∷ why_text why.entry.shape.now why.entry.bytes.now why.entry.why.now) }
 {
@@ -65,7 +57,7 @@ impl Ask for Explain<'_> {
     ghost needs_of = { λ _. bytes_needs true };
 
     ghost is_due = { λ ask shape conclusion text. IsExplained (told_by ask.asked.times) ask.asked.most
-        ask.asked.complete shape conclusion text };
+        ask.asked.complete ask.asked.first shape conclusion text };
 
     ghost lost = { not_read_line };
 
@@ -87,7 +79,7 @@ impl Ask for Explain<'_> {
         };
         match why_of(alloc, shape, bytes, &judged, &self.asked)? {
             Some(why) => {
-                let line = line_for(judged.outcome, judged.incomplete);
+                let line = headline_of(self.asked.first, &judged);
                 let text = WhyText {
                     shape,
                     bytes,

@@ -9,6 +9,7 @@ mod as_json;
 mod commands;
 mod cover;
 mod explain;
+mod headline;
 
 pub use as_json::Json;
 pub use commands::{run_cover, run_cover_data, run_explain, run_explain_json};

@@ -21,6 +21,7 @@ fn assert_written<T: Abort + AllocGlobal + Threads + Sync + Send + Copy + 'stati
         most,
         times: None,
         complete: true,
+        first: false,
     };
     let answer = run_explain(rt, &mut reader, &mut writer, C1_TEXT, &asked, 1000);
     assert!(rt; answer.is_ok());

@@ -78,6 +78,7 @@ where
         most: options.events,
         times: times.as_ref(),
         complete: options.complete,
+        first: options.first,
     };
     let mut reader = Counted::new(reader_of(rt, trace, options.progress, on_terminal));
     let answer = Answer::new(rt, io::writer(rt), options.progress && on_terminal);

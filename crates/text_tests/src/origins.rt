@@ -2,7 +2,10 @@
 
 use explain_history::{packed, places_in_order};
 use explain_lines::{Listing, Marks};
-use explain_origins::{BrokenRule, Origins, OriginsText, origins_of};
+use explain_origins::{
+    BrokenRule, Origins, OriginsText, StatePart, origins_of, origins_of_all, places_standing,
+    register_of,
+};
 use lf_codec::Packed;
 use lf_rules::{Level, OrgShape, Rule, Shape};
 use std::alloc::{AllocError, Global};
@@ -99,4 +102,27 @@ hit bank=0 number=4 port=0 tag=0 ; at 48
   of store port=0 bank=0 number=0 tag=0 size=4 address=0x8 bytes=00000000 ; at 16
 ";
     assert_origins(&rt, &events, Rule::ReplyData, Some(11), due)
+}
+
+/// A block that level two looked up is not asked for any longer.
+#[test]
+fn what_is_left_at_the_end(rt: HostRuntime) -> Result<(), Fail> {
+    let alloc = rt.alloc();
+    let events = "L 0 8@8, P 0 1, L 1 8@16, P 1 0, SP 1 0, L 2 8@0";
+    let records = records(alloc, &SHAPE, &[events])?;
+    let packed = packed(alloc, &records).map_err(|_| "out of memory")?;
+    let places = places_in_order(alloc, &packed, 0, records.len()).map_err(|_| "out of memory")?;
+    let waiting = places_standing(alloc, &SHAPE, &packed, &places, StatePart::Unreplied);
+    let waiting = waiting.map_err(|_| "out of memory")?;
+    assert_eq!(rt; waiting.as_slice(), [0, 2, 5].as_slice());
+    let part = StatePart::Targets1 { block: 1 };
+    let register = register_of(alloc, &SHAPE, &packed, &places, part);
+    assert_eq!(rt; register.map_err(|_| "out of memory")?, Some(1));
+    let parts = [StatePart::Asked, StatePart::LastOfLevelTwo];
+    let all = origins_of_all(alloc, &SHAPE, &packed, &places, &parts);
+    let all = all.map_err(|_| "out of memory")?;
+    assert_eq!(rt; all.len(), 2);
+    assert_eq!(rt; all[0].records[0].place, 3);
+    assert_eq!(rt; all[1].records[0].place, 4);
+    Ok(())
 }

@@ -1,13 +1,8 @@
 use Rattle.std.proofs.Common.{ℕ, ◌+◌, ◌<◌, ◌^◌, List, Option, refl, sym, ◌∙◌, arith}
 use Rattle.lf_codec.specs.Lengths.{bytes_len}
 use Rattle.explain_lines.specs.Marks.{told_by}
-use Rattle.lf_rules.specs.declared.event.Event.TheVariants as events
-use Rattle.lf_rules.specs.declared.event.Record.{Record}
 use Rattle.explain_why.proofs.Incomplete.{request_waits, is_not_complete}
 use Rattle.explain_why.proofs.not_complete.not_complete.Goals as goal
-
-no_record : Record
-no_record = record { log = 0; bank = 0; number = 0; event = events.Fence }
 
 pub packed_in-requires : goal.packed_in-requires
 packed_in-requires c =
@@ -26,6 +21,5 @@ returns c =
     let time : ℕ → ℕ → Option (List ℕ) = told_by c.args.asked.now.times in
     let fits : packing.start + bytes_len packing.records.records < 2 ^ 64 = omega (arith, has.ends) in
     is_not_complete c.args.shape.now c.args.bytes.now c.args.request c.requires.incomplete packing has time
-    c.args.asked.now.most _ no_record refl refl (c.in_ok-marks.ensures fits)
-    (sym c.waiting_request.ensures.request ∙ c.in-Some.is) c.in-Some.ensures.inside
-    (c.in_ok-at_block.ensures no_record)
+    c.args.asked.now.most _ refl refl (c.in_ok-marks.ensures fits)
+    (sym c.waiting_request.ensures.request ∙ c.in-Some.is) c.in_ok-oldest.ensures

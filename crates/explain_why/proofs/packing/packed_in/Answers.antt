@@ -1,42 +1,26 @@
-use Rattle.std.proofs.Common.{◌≡◌, ℕ, List, [], Ok, refl, sym, ap, ◌∙◌, subst}
-use Rattle.lf_rules.specs.declared.event.Record.{Record}
-use Rattle.lf_rules.specs.Fits.{Bytes}
-use Rattle.lf_codec.specs.Reading.{Reading}
-use Rattle.lf_codec.specs.Reader.{HasRead, with_records}
+use Rattle.std.proofs.Common.{◌≡◌, Ok, refl}
 use Rattle.explain_why.proofs.Taken.{all_taken, is_at_end}
-use Rattle.explain_why.proofs.Within.{as_taken, unless_wanted, is_packing}
+use Rattle.explain_why.proofs.Within.{is_packing}
 use Rattle.explain_why.proofs.packing.packed_in.Goals as goal
 
 pub returns : goal.returns
 returns c =
     let bytes = c.args.bytes.now in
-    let begun = c.new-reader.result in
-    let fed = c.pack.new.self in
-    let records = c.pack.new.records.records in
-    let memory = c.take_memory.new.memory.items in
-    let header = c.in-Ok-finish.header in
-    let first = subst (λ (rs : List Record). HasRead (with_records rs begun) [] [] []) (sym c.new-records.ensures)
-    c.new-reader.ensures in
-    let read = as_taken fed bytes [] records (c.in-Ok.ensures.ok [] [] [] first) in
-    let all = c.in_ok-take_memory.ensures.taken bytes records
-    (subst (λ (m : List (ℕ × Bytes)). HasRead fed bytes m records) (sym c.new-memory.ensures.items) read) in
-    let none : begun.records ≡ [] = sym (ap (λ (r : Reading). r.records) c.new-reader.ensures.same) in
-    let left = c.take_memory.ensures.records ∙ unless_wanted _ (c.in-Ok.ensures.drained none) in
+    let header = c.in-Ok.header in
+    let memory = c.in_ok-memory.memory.items in
+    let records = c.in_ok-memory.records.records in
+    let all = c.in_ok-memory.ensures in
     let trace = all_taken bytes header memory _ records _
-    ((c.in-Ok-finish.ensures.trace bytes memory records all header).0 refl) c.in_ok-take_memory.ensures.none left in
+    ((c.in-Ok.ensures.trace bytes memory records all.read header).0 refl) all.no_memory all.no_records in
     is_packing bytes header _ trace (c.first_record_at.ensures memory records trace.fits)
 
 pub unreachable-requires : goal.unreachable-requires
 unreachable-requires c =
     let bytes = c.args.bytes.now in
-    let fed = c.pack.new.self in
-    let records = c.pack.new.records.records in
-    let first = subst (λ (rs : List Record). HasRead (with_records rs c.new-reader.result) [] [] [])
-    (sym c.new-records.ensures) c.new-reader.ensures in
-    let read = as_taken fed bytes [] records (c.in-Ok.ensures.ok [] [] [] first) in
-    let all = c.in_ok-take_memory.ensures.taken bytes records
-    (subst (λ (m : List (ℕ × Bytes)). HasRead fed bytes m records) (sym c.new-memory.ensures.items) read) in
+    let memory = c.in_ok-memory.memory.items in
+    let records = c.in_ok-memory.records.records in
+    let read = c.in_ok-memory.ensures.read in
     let whole : c.finish.result ≡ Ok c.requires.header =
-    (c.finish.ensures.trace bytes c.take_memory.new.memory.items records all c.requires.header).1
-    (is_at_end bytes c.requires _ c.take_memory.new.memory.items records all) in
+    (c.finish.ensures.trace bytes memory records read c.requires.header).1
+    (is_at_end bytes c.requires _ memory records read) in
     cc

@@ -4,7 +4,7 @@ use Rattle.explain_origins.specs.declared.parts.StatePart.{StatePart}
 use Rattle.explain_origins.specs.declared.parts.StatePart.TheVariants.{LinesOfSet1}
 use Rattle.explain_origins.specs.Further.{AreOf}
 use Rattle.explain_origins.proofs.FurtherLemmas.{of_more}
-use Rattle.explain_origins.proofs.further.all_of.Goals as goal
+use Rattle.explain_origins.proofs.further.origins_of_all.Goals as goal
 
 pub loop-part-preserved : goal.loop-part-preserved
 loop-part-preserved c =
