@@ -31,6 +31,7 @@ pub use files::STANDARD;
 pub use request::Request;
 use std::alloc::Global;
 pub use usage::UsageFault;
+pub use shrink::ShrinkOptions;
 pub use view::{ViewOptions, Window};
 
 /// Why there is no command.

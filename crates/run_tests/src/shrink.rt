@@ -3,7 +3,7 @@
 use lf_rules::Rule;
 use lf_verdict::{Fault, Outcome};
 use run_engine::Counted;
-use run_shrink::{RuleFault, Shrinking, Shrunk, Silent, run_shrink};
+use run_shrink::{Asked, Observer, Place, RuleFault, Shrinking, Shrunk, Silent, run_shrink};
 use std::test::Fail;
 use std::thread::Threads;
 use trace_samples::{C1, C1_TEXT, LOAD, LOAD_MISSES_BOTH_LEVELS, LOADED, trace_of};
@@ -15,7 +15,9 @@ fn searched<T: AllocGlobal + Threads + Sync + Send + Copy + 'static>(
     most: u32,
 ) -> Result<Shrinking, Fail> {
     let mut reader = Counted::new(bytes);
-    run_shrink(rt, &mut reader, C1_TEXT, most, 1000, &Silent).map_err(|_| Fail::new("no answer"))
+    let asked = Asked { first: false, most };
+    run_shrink(rt, &mut reader, C1_TEXT, asked, 1000, &mut Silent)
+        .map_err(|_| Fail::new("no answer"))
 }
 
 /// What was found, where the verdict names a rule.
