@@ -103,7 +103,7 @@ impl Parts {
             last: last_needed(best.fault, records),
         };
         if let Some(broken) = broken_place(best.fault, records) {
-            parts.pin(broken);
+            parts.pin(records, broken);
             parts.pin_history(best, order, broken, count);
             parts.pin_answered(records, broken);
         }
@@ -114,19 +114,15 @@ impl Parts {
         self.links.get(place)
     }
 
-    /// The record at this place stays, with those of its request.
-    fn pin(&mut self, place: usize) {
-        if let Some(stays) = self.stays.get_mut(place) {
-            *stays = true;
-        }
-        let Some(owner) = self.links.get(place).and_then(|link| link.owner) else {
-            return;
-        };
-        for (at, link) in self.links.iter().enumerate() {
-            if link.owner == Some(owner) {
-                if let Some(stays) = self.stays.get_mut(at) {
-                    *stays = true;
-                }
+    /// The record at this place stays, with those of its request but its stalls.
+    fn pin(&mut self, records: &[Record], place: usize) {
+        let owner = self.links.get(place).and_then(|link| link.owner);
+        for (at, item) in records.iter().enumerate() {
+            let is_of_request = owner.is_some()
+                && self.links.get(at).and_then(|link| link.owner) == owner
+                && !matches!(item.event, Event::Stall { .. } | Event::SecondStall { .. });
+            if let Some(stays) = self.stays.get_mut(at) {
+                *stays = *stays || at == place || is_of_request;
             }
         }
     }
@@ -144,7 +140,7 @@ impl Parts {
             };
             let is_of_block = self.link(*place).and_then(|link| link.second) == second;
             if left > 0 && item.bank == bank && item.number < number && is_of_block {
-                self.pin(*place);
+                self.pin(&best.records, *place);
                 left -= 1;
             }
         }
@@ -168,7 +164,7 @@ impl Parts {
             }
         }
         if let Some(issue) = issue {
-            self.pin(issue);
+            self.pin(records, issue);
         }
     }
 
