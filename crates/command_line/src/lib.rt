@@ -29,9 +29,9 @@ pub use dump::DumpOptions;
 pub use explain::ExplainOptions;
 pub use files::STANDARD;
 pub use request::Request;
+pub use shrink::ShrinkOptions;
 use std::alloc::Global;
 pub use usage::UsageFault;
-pub use shrink::ShrinkOptions;
 pub use view::{ViewOptions, Window};
 
 /// Why there is no command.

@@ -72,6 +72,12 @@ module _ (shape : Shape) (bytes : List ℕ) where
   has_fault false (Refused refusal) b fault is earliest h = none_is_some fault h
   has_fault true (Refused refusal) b fault is earliest h = none_is_some fault h
 
+  pub has_fault_if : (first : Bool) (outcome : Outcome) (b : Option Broken) (found : Option RuleFault)
+      → (IsDecidedOutcome outcome → IsOutcomeOf shape bytes outcome) → IfSome b (IsEarliest shape bytes)
+      → found ≡ fault_in first outcome b → IfSome found (HasFault first shape bytes)
+  has_fault_if first outcome b None is earliest h = tt
+  has_fault_if first outcome b (Some fault) is earliest h = has_fault first outcome b fault is earliest (sym h)
+
   -- ---- what else holds of the trace
 
   a_no : (first : Bool) (fault : RuleFault) → HasFault first shape bytes fault → (told : Fault) × IsNo shape bytes told
@@ -101,6 +107,6 @@ module _ (shape : Shape) (bytes : List ℕ) where
   records_are_fit first fault h header memory records trace =
       let is = (a_no first fault h).1 in
       let same = bytes_are_of_one_trace bytes header is.trace.header memory is.memory records is.trace.records trace
-          is.trace.trace in
+      is.trace.trace in
       subst (λ (rs : List Record). AllByRecursion (Fits shape) rs) (sym same.2)
       (records_fit shape is.trace.header is.memory is.trace.records is.trace.trace.fits is.trace.agrees)

@@ -69,17 +69,15 @@ fn fault_of(
     if sought.alone && !is_alone(&conclusion) {
         return Ok(None);
     }
-    Ok(RuleFault::of_conclusion(
-        sought.first,
-        &conclusion.outcome,
-        &conclusion.broken,
-    ))
+    Ok(RuleFault::of_conclusion(sought.first, &conclusion.outcome, &conclusion.broken))
 }
 
 /// Whether what broke first is what the outcome names.
 pub(crate) fn is_alone(conclusion: &Conclusion) -> bool {
     let Conclusion {
-        outcome, broken, ..
+        outcome,
+        broken,
+        ..
     } = conclusion;
     RuleFault::of_conclusion(true, outcome, broken)
         == RuleFault::of_conclusion(false, outcome, broken)

@@ -46,7 +46,8 @@ fn first_fills(
             continue;
         };
         match &item.event {
-            Event::Fill2 { block, .. } if stays.get(*place) == Some(&true) && first.get(block).is_none() => {
+            Event::Fill2 { block, .. }
+                if stays.get(*place) == Some(&true) && first.get(block).is_none() => {
                 let _ = first.insert(*block, *place)?;
             }
             _ => {}

@@ -160,7 +160,14 @@ impl<'a> Plan<'a> {
         }
         let stays = self.stays()?;
         Ok(Candidate {
-            memory: patched(self.alloc, self.shape, self.wanted, best, &self.order, &stays)?,
+            memory: patched(
+                self.alloc,
+                self.shape,
+                self.wanted,
+                best,
+                &self.order,
+                &stays,
+            )?,
             records: renumbered(self.alloc, records, &self.order, &stays)?,
             places: staying(self.alloc, &best.places, &stays)?,
         })

@@ -31,8 +31,9 @@ fn searched<T: AllocGlobal + Threads + Sync + Send + Copy + 'static>(
 ) -> Result<Shrinking, Fail> {
     let mut reader = Counted::new(bytes);
     let asked = Asked { first: false, most };
-    run_shrink(rt, &mut reader, C1_TEXT, asked, 1000, &mut Silent)
-        .map_err(|_| Fail::new("no answer"))
+    run_shrink(rt, &mut reader, C1_TEXT, asked, 1000, &mut Silent).map_err(|_| Fail::new(
+        "no answer",
+    ))
 }
 
 /// What was found, where the verdict names a rule.
@@ -72,13 +73,34 @@ fn what_broke_first_is_another_fault(rt: HostRuntime) -> Result<(), Fail> {
         return Err(Fail::new("no search"));
     };
     let rule = Rule::NotPresent;
-    assert_eq!(rt; shrunk.fault, RuleFault::Bank { bank: 0, number: 1, rule });
+    assert_eq!(rt;
+        shrunk.fault,
+        RuleFault::Bank {
+            bank: 0,
+            number: 1,
+            rule
+        }
+    );
     let places = [Place { log: 0, at: 2 }, Place { log: 1, at: 4 }];
     assert_eq!(rt; shrunk.places.as_slice(), places.as_slice());
     let due = found(&rt, bytes.as_slice(), 1000)?;
     let rule = Rule::TagBusy;
-    assert_eq!(rt; due.before, RuleFault::Port { port: 0, at: 3, rule });
-    assert_eq!(rt; due.fault, RuleFault::Port { port: 0, at: 1, rule });
+    assert_eq!(rt;
+        due.before,
+        RuleFault::Port {
+            port: 0,
+            at: 3,
+            rule
+        }
+    );
+    assert_eq!(rt;
+        due.fault,
+        RuleFault::Port {
+            port: 0,
+            at: 1,
+            rule
+        }
+    );
     Ok(())
 }
 
