@@ -29,11 +29,11 @@ use Rattle.run_shrink.specs.Wanted.{HasBank}
 
 -- ---- which fault it is
 
-found_or : RuleFault → Option RuleFault → RuleFault
+abbrev found_or : RuleFault → Option RuleFault → RuleFault
 found_or d None = d
 found_or d (Some fault) = fault
 
-is_found : Option RuleFault → Bool
+abbrev is_found : Option RuleFault → Bool
 is_found None = false
 is_found (Some fault) = true
 
@@ -51,6 +51,14 @@ as_part : (part : PartFault) (fault : RuleFault) → of_part part ≡ Some fault
 as_part (parts.Port port at rule) fault h = ap (λ o. part_of (found_or fault o)) h
 as_part (parts.Bank bank number rule) fault h = ap (λ o. part_of (found_or fault o)) h
 as_part (parts.Double bank k) fault h = none_is_some fault h
+
+-- An outcome that has a fault is one.
+pub is_decided : (first : Bool) (outcome : Outcome) (b : Option Broken) (fault : RuleFault)
+    → fault_in first outcome b ≡ Some fault → IsDecidedOutcome outcome
+is_decided first (No told) b fault h = tt
+is_decided first (Yes events) b fault h = tt
+is_decided false (Refused refusal) b fault h = none_is_some fault h
+is_decided true (Refused refusal) b fault h = none_is_some fault h
 
 module _ (shape : Shape) (bytes : List ℕ) where
   first_fault : (told : Fault) (b : Option Broken) (fault : RuleFault) → IsOutcomeOf shape bytes (No told)
