@@ -15,7 +15,7 @@ _score() {
     watch) options='-h --help' valued='' ;;
     dump) options='--port --bank --block --tag --from --last -h --help' valued='--port --bank --block --tag --from --last' ;;
     assemble) options='-h --help' valued='' ;;
-    shrink) options='--checks -h --help' valued='--checks' ;;
+    shrink) options='--checks --first --map -h --help' valued='--checks' files='--map' ;;
     view) options='--from --to --map --complete -h --help' valued='--from --to' files='--map' ;;
     help)
       mapfile -t COMPREPLY < <(compgen -W 'check stats explain cover demo watch dump assemble shrink view' -- "$word")

@@ -40,6 +40,8 @@ complete -c score -n '__fish_seen_subcommand_from dump; and not __fish_seen_subc
 complete -c score -n '__fish_seen_subcommand_from dump; and not __fish_seen_subcommand_from help' -s h -l help -d 'Print help'
 complete -c score -n '__fish_seen_subcommand_from assemble; and not __fish_seen_subcommand_from help' -s h -l help -d 'Print help'
 complete -c score -n '__fish_seen_subcommand_from shrink; and not __fish_seen_subcommand_from help' -l checks -x -d 'How many smaller traces are tried at most [default: 10000]'
+complete -c score -n '__fish_seen_subcommand_from shrink; and not __fish_seen_subcommand_from help' -l first -d 'Searches for what broke first in the trace'
+complete -c score -n '__fish_seen_subcommand_from shrink; and not __fish_seen_subcommand_from help' -l map -r -F -d 'The times of the records'
 complete -c score -n '__fish_seen_subcommand_from shrink; and not __fish_seen_subcommand_from help' -s h -l help -d 'Print help'
 complete -c score -n '__fish_seen_subcommand_from view; and not __fish_seen_subcommand_from help' -l from -x -d 'The place of the first record to show'
 complete -c score -n '__fish_seen_subcommand_from view; and not __fish_seen_subcommand_from help' -l to -x -d 'The place of the last record to show'

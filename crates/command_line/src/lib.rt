@@ -29,6 +29,7 @@ pub use dump::DumpOptions;
 pub use explain::ExplainOptions;
 pub use files::STANDARD;
 pub use request::Request;
+pub use shrink::ShrinkOptions;
 use std::alloc::Global;
 pub use usage::UsageFault;
 pub use view::{ViewOptions, Window};

@@ -3,6 +3,7 @@
 use crate::check::CheckOptions;
 use crate::dump::DumpOptions;
 use crate::explain::ExplainOptions;
+use crate::shrink::ShrinkOptions;
 use crate::view::ViewOptions;
 
 /// A command, with the words that it was given.
@@ -59,7 +60,7 @@ pub enum Request<'a> {
         config: &'a str,
         trace: &'a str,
         out: &'a str,
-        checks: u32,
+        options: ShrinkOptions<'a>,
     },
     /// Judge the trace in a file for the configuration in a file, and write its waveform to another.
     View {
@@ -97,12 +98,17 @@ impl<'a> Request<'a> {
             } => [Some(config), None, traces.first().copied()],
             Request::Stats { config, trace, .. }
             | Request::Cover { config, trace, .. }
-            | Request::Watch { config, trace }
-            | Request::Shrink { config, trace, .. } => [Some(config), None, Some(trace)],
+            | Request::Watch { config, trace } => [Some(config), None, Some(trace)],
             Request::Explain {
                 config,
                 trace,
                 options,
+            } => [Some(config), options.map, Some(trace)],
+            Request::Shrink {
+                config,
+                trace,
+                options,
+                ..
             } => [Some(config), options.map, Some(trace)],
             Request::View {
                 config,

@@ -1,7 +1,7 @@
 //! `score shrink CONFIG TRACE OUT`.
 
 use crate::Request;
-use crate::argument::{Argument, CONFIG, OUT, TRACE, Takes};
+use crate::argument::{Argument, CONFIG, MAP, OUT, TRACE, Takes};
 use crate::files::{LEFT_OUT, files_of};
 use clap::ArgMatches;
 
@@ -12,20 +12,35 @@ pub const ABOUT: &str = "Searches for a smaller trace with the same rule broken,
 pub const HELP: &str = "\
 Answers:
   no bank=0 number=2 rule=ReplyData       what check says of OUT
-  shrunk events=20000 to=9 checks=312     TRACE has 20000 events, OUT has 9,
-                                          and 312 traces were tried
+  shrunk events=20000 to=9 checks=312 was bank=0 number=812 rule=ReplyData
+                                          TRACE has 20000 events and this
+                                          fault, OUT has 9 of them, and 312
+                                          traces were tried
   yes events=6                            there is nothing to search for
   refused write                           OUT cannot be written
 
-If a port or a bank breaks a rule, OUT breaks the same rule by an event of
-the same kind, for example a reply as in TRACE. The search leaves out what
-comes after the fault, then banks, ports, blocks and requests, then replies,
-and at last single events. It numbers the events of each bank again, gives
-requests other tags if a reply can be left out then, and keeps each trace to
-which check says no for the same reason. The last 8 events before a bank's
-event at its second-level block stay, since they show why; fewer of them
-stay if 30 events or more would be left. OUT need not be the smallest such
+If a port or a bank breaks a rule, the same event breaks the same rule in OUT.
+Only its number may be another one, and the number of its bank's other events.
+If the rule compares bytes, the same ones are expected. Nothing else breaks
+before it, unless something does in TRACE.
+
+The search leaves out what comes after the fault, then the events of banks,
+ports and blocks, loads from which no state is left, what happened to a block
+before level two gave it up, evictions with the misses after them, requests,
+replies, and at last single events. The requests that lead to the event stay,
+and for a reply that no request waits for, the last request with its tag and
+the reply to that. The last 8 events before a bank's event at its second-level
+block stay too, since they show why; fewer of them stay if 30 events or more
+would be left. If the first fill of a block is left out, the memory of OUT has
+the bytes of the first one that is left. OUT need not be the smallest such
 trace. If nothing smaller is found, OUT is TRACE.
+
+With --first, the fault is what broke first in TRACE, and the first line says
+what broke first in OUT; see score help watch.
+
+With --map FILE, the times of the events that are left are written too. The
+name of that map is that of OUT with .map instead of .lfts; see score help
+explain. If OUT is -, there is none.
 
 For any other answer the line is that of check, and nothing is written; see
 score help check.
@@ -41,7 +56,20 @@ Exit status:
 
 Examples:
   score shrink small.toml run.lfts small.lfts
+  score shrink --first small.toml run.lfts small.lfts
+  score shrink --map run.map small.toml run.lfts small.lfts
   score shrink small.toml run.lfts - | score dump -";
+
+/// What `shrink` is asked for.
+#[derive(Clone, Copy)]
+pub struct ShrinkOptions<'a> {
+    /// How many smaller traces are tried at most.
+    pub checks: u32,
+    /// What broke first is sought in the place of the fault that `check` names.
+    pub first: bool,
+    /// The file in which a recorder wrote the time of each record.
+    pub map: Option<&'a str>,
+}
 
 pub const ARGUMENTS: &[Argument] = &[
     CONFIG,
@@ -54,6 +82,14 @@ pub const ARGUMENTS: &[Argument] = &[
         default: "10000",
         help: "How many smaller traces are tried at most",
     },
+    Argument {
+        name: "first",
+        takes: Takes::Nothing,
+        value: "",
+        default: "",
+        help: "Searches for what broke first in the trace",
+    },
+    MAP,
 ];
 
 pub fn request<'a>(matches: &ArgMatches<'a>) -> Result<Request<'a>, &'static str> {
@@ -62,6 +98,10 @@ pub fn request<'a>(matches: &ArgMatches<'a>) -> Result<Request<'a>, &'static str
         config,
         trace,
         out: matches.get_str("OUT").ok_or(LEFT_OUT)?,
-        checks: matches.get_one::<u32>("checks").ok_or(LEFT_OUT)?,
+        options: ShrinkOptions {
+            checks: matches.get_one::<u32>("checks").ok_or(LEFT_OUT)?,
+            first: matches.get_flag("first"),
+            map: matches.get_str("map"),
+        },
     })
 }

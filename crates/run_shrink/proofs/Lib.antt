@@ -1,1 +1,4 @@
+pub mod Faults
 pub mod Larger
+pub mod Masks
+pub mod Told

@@ -3,18 +3,17 @@ use Rattle.std.specs.Prelude.{◌≡◌, ◌⊎◌, ◌≤◌, ◌<◌, length}
 use Rattle.lf_rules.specs.declared.shape.Shape.{Shape}
 use Rattle.lf_codec.specs.declared.header.Header.{Header}
 use Rattle.lf_codec.specs.Trace.{IsTrace}
-use Rattle.lf_verdict.specs.declared.answer.Outcome.TheVariants.{No}
-use Rattle.lf_verdict.specs.Outcome.{IsOutcomeOf}
-use Rattle.run_shrink.specs.declared.broken.Wanted.{Wanted}
+use Rattle.run_shrink.specs.declared.wanted.Wanted.{Wanted}
 use Rattle.run_shrink.specs.declared.candidate.Kept.{Kept}
-use Rattle.run_shrink.specs.Broken.{fault_of, IsWanted}
+use Rattle.run_shrink.specs.Broken.{HasFault}
+use Rattle.run_shrink.specs.Wanted.{IsWanted}
 
--- The bytes are the trace of the memory and the records, and their outcome is a no that is wanted.
+-- The bytes are the trace of the memory and the records, and have the fault, which is the one that is wanted.
 pub record IsKept (shape : Shape) (wanted : Wanted) (kept : Kept) : Type 0 where
   pub header : Header
   pub trace : IsTrace kept.bytes.items header kept.memory.items kept.records.items
-  pub outcome : IsOutcomeOf shape kept.bytes.items (No (fault_of kept.fault))
-  pub is_wanted : IsWanted wanted kept.records.items kept.fault
+  pub has : HasFault wanted.sought.first shape kept.bytes.items kept.fault
+  pub is_wanted : IsWanted shape kept.memory.items kept.records.items kept.fault wanted
 
 -- It has fewer bytes than another, and no more records.
 pub record IsSmallerThan (other kept : Kept) : Type 0 where

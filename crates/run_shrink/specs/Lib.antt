@@ -3,3 +3,5 @@ pub mod Broken
 pub mod Candidate
 pub mod Shrunk
 pub mod Text
+pub mod Told
+pub mod Wanted

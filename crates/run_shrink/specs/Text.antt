@@ -8,11 +8,12 @@ use Rattle.run_shrink.specs.declared.shrink.Shrinking.{Shrinking}
 use Rattle.run_shrink.specs.declared.shrink.Shrinking.TheVariants as shrinkings
 use Rattle.run_shrink.specs.Broken.{fault_of}
 
--- what was searched for: how many events there were, how many are left, and how many traces were judged
+-- what was searched for: how many events there were, how many are left, how many traces were judged, and the fault of
+-- the trace that was read
 abbrev pub search_text : Shrunk → List ℕ
 search_text shrunk =
     codes "shrunk events=" ++ decimal shrunk.events ++ codes " to=" ++ decimal shrunk.left ++ codes " checks="
-    ++ decimal shrunk.checks
+    ++ decimal shrunk.checks ++ codes " was " ++ fault_text (fault_of shrunk.before)
 
 -- the line of the verdict of the smallest trace, and that of the search
 abbrev pub shrunk_text : Shrunk → List ℕ

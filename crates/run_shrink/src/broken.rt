@@ -1,12 +1,12 @@
-//! The rule that a trace breaks, and the event that breaks it.
+//! The fault of a trace that is shrunk, and the record that it names.
 
-ghost use Rattle.std.specs.Prelude.{◌≡◌, ◌↔◌, IsTrue, IfSome, IfNone};
-ghost use Rattle.lf_codec.specs.Layout.{code_of, kind_of};
-ghost use Rattle.run_shrink.specs.Broken.{IsRuleFault, fault_of, rule_of, kind_in_log, kind_of_number, broken_kind};
-ghost use Rattle.run_shrink.specs.Broken.{IsWanted};
+ghost use Rattle.std.specs.Prelude.{◌≡◌};
+ghost use Rattle.std.specs.Option.{option_map};
+ghost use Rattle.run_shrink.specs.Broken.{of_fault, of_part, of_broken, fault_in, rule_of, record_in_log};
+ghost use Rattle.run_shrink.specs.Broken.{record_of_number, record_of};
 
-use lf_rules::{Event, Record, Rule};
-use lf_verdict::Fault;
+use lf_rules::{Record, Rule};
+use lf_verdict::{Broken, Fault, Outcome, PartFault};
 
 /// A fault of a trace that names a rule, as that of a verdict does.
 #[derive(Clone, Copy, Debug, PartialEq, Eq)]
@@ -20,8 +20,7 @@ pub enum RuleFault {
 impl RuleFault {
     /// The fault of a verdict, where it names a rule.
     pub fn of(fault: &Fault) -> Option<RuleFault>
-        ensures some { IfSome result (λ found. fault_of found ≡ fault.now) }
-        ensures none { IfNone result (¬ IsRuleFault fault.now) }
+        ensures { result ≡ of_fault fault.now }
     {
         match fault {
             Fault::Port { port, at, rule } => Some(RuleFault::Port {
@@ -38,6 +37,43 @@ impl RuleFault {
         }
     }
 
+    /// A fault of a part, where it names a rule.
+    fn of_part(fault: &PartFault) -> Option<RuleFault>
+        ensures { result ≡ of_part fault.now }
+    {
+        match *fault {
+            PartFault::Port { port, at, rule } => Some(RuleFault::Port { port, at, rule }),
+            PartFault::Bank { bank, number, rule } => Some(RuleFault::Bank { bank, number, rule }),
+            PartFault::Double { .. } => None,
+        }
+    }
+
+    /// What broke first, where that names a rule.
+    fn of_broken(broken: &Option<Broken>) -> Option<RuleFault>
+        ensures { result ≡ of_broken broken.now }
+    {
+        match broken {
+            Some(Broken::Part { fault, .. }) => RuleFault::of_part(fault),
+            _ => None,
+        }
+    }
+
+    /// The fault of a trace with a no that names a rule: that of the verdict, or what broke first, where that is asked
+    /// for.
+    pub(crate) fn of_conclusion(
+        first: bool,
+        outcome: &Outcome,
+        broken: &Option<Broken>,
+    ) -> Option<RuleFault>
+        ensures { result ≡ fault_in first outcome.now broken.now }
+    {
+        match outcome {
+            Outcome::No(_) if first => RuleFault::of_broken(broken),
+            Outcome::No(fault) => RuleFault::of(fault),
+            _ => None,
+        }
+    }
+
     /// The rule that it names.
     pub fn rule(self) -> Rule
         ensures { result ≡ rule_of self }
@@ -47,49 +83,26 @@ impl RuleFault {
         }
     }
 
-    /// The kind of the event that breaks the rule.
-    pub(crate) fn kind(self, records: &[Record]) -> Option<u8>
-        ensures { result ≡ broken_kind records.now self }
+    /// The record that breaks the rule.
+    pub(crate) fn record(self, records: &[Record]) -> Option<&Record>
+        ensures { option_map (λ item. item.now) result ≡ record_of records.now self }
     {
         match self {
-            RuleFault::Port { port, at, .. } => kind_in_log(records, port, at),
-            RuleFault::Bank { bank, number, .. } => kind_of_number(records, bank, number),
+            RuleFault::Port { port, at, .. } => record_in_log(records, port, at),
+            RuleFault::Bank { bank, number, .. } => record_of_number(records, bank, number),
         }
     }
 }
 
-/// The number that stands for the kind of an event in a trace.
-fn kind_code(event: &Event) -> u8
-    ensures { result ≡ code_of (kind_of event.now) }
-{
-    match event {
-        Event::Issue { .. } => 1,
-        Event::Reply { .. } => 2,
-        Event::Hit { .. } => 3,
-        Event::Primary { .. } => 4,
-        Event::Merge { .. } => 5,
-        Event::Stall { .. } => 6,
-        Event::Fill1 { .. } => 7,
-        Event::Evict1 { .. } => 8,
-        Event::SecondHit { .. } => 9,
-        Event::SecondPrimary { .. } => 10,
-        Event::SecondStall { .. } => 11,
-        Event::Fill2 { .. } => 12,
-        Event::Evict2 { .. } => 13,
-        Event::Fence => 14,
-        Event::SecondMerge { .. } => 15,
-    }
-}
-
-/// The kind of the record at this place of a log.
-fn kind_in_log(records: &[Record], log: u8, at: u32) -> Option<u8>
-    ensures { result ≡ kind_in_log log at records.now }
+/// The record at this place of a log.
+fn record_in_log(records: &[Record], log: u8, at: u32) -> Option<&Record>
+    ensures { option_map (λ item. item.now) result ≡ record_in_log log at records.now }
 {
     let mut left = at;
     for item in records {
         if item.log == log {
             if left == 0 {
-                return Some(kind_code(&item.event));
+                return Some(item);
             }
             left -= 1;
         }
@@ -97,44 +110,14 @@ fn kind_in_log(records: &[Record], log: u8, at: u32) -> Option<u8>
     None
 }
 
-/// The kind of the first record that has this number of a bank.
-fn kind_of_number(records: &[Record], bank: u8, number: u32) -> Option<u8>
-    ensures { result ≡ kind_of_number bank number records.now }
+/// The first record that has this number of a bank.
+fn record_of_number(records: &[Record], bank: u8, number: u32) -> Option<&Record>
+    ensures { option_map (λ item. item.now) result ≡ record_of_number bank number records.now }
 {
     for item in records {
         if item.bank == bank && item.number == number {
-            return Some(kind_code(&item.event));
+            return Some(item);
         }
     }
     None
-}
-
-/// What the search keeps of each trace: the rule, and the kind of the event that breaks it.
-#[derive(Clone, Copy)]
-pub(crate) struct Wanted {
-    pub rule: Rule,
-    pub kind: Option<u8>,
-}
-
-/// Whether two rules are one.
-fn is_same_rule(rule: Rule, other: Rule) -> bool
-    ensures { IsTrue result ↔ (rule ≡ other) }
-{
-    rule == other
-}
-
-/// Whether two kinds are one.
-fn is_same_kind(kind: Option<u8>, other: Option<u8>) -> bool
-    ensures { IsTrue result ↔ (kind ≡ other) }
-{
-    kind == other
-}
-
-impl Wanted {
-    /// Whether the fault of these records is of that rule and by an event of that kind.
-    pub fn is_met(&self, fault: RuleFault, records: &[Record]) -> bool
-        ensures { IsTrue result ↔ IsWanted self.now records.now fault }
-    {
-        is_same_rule(fault.rule(), self.rule) && is_same_kind(fault.kind(records), self.kind)
-    }
 }

@@ -2,7 +2,7 @@
 
 use crate::broken::RuleFault;
 use crate::candidate::Kept;
-use crate::requests::{owners, second_touched};
+use crate::requests::{Link, links_of};
 use lf_rules::{Event, NO_BANK, NoMemory, Record, Shape};
 use std::alloc::Global;
 
@@ -17,18 +17,24 @@ pub(crate) enum Stage {
     Ports,
     /// The records that touch a second-level block.
     Blocks,
+    /// The records of a load from which no state is left.
+    Loads,
+    /// The records at a second-level block between two of its evictions from level two.
+    Pasts,
     /// The blocks of memory that no record touches.
     Memory,
+    /// An eviction from level one, and the records of the request that brings the block back.
+    Refills,
     /// The records of a request.
     Requests,
-    /// The reply to a request. Requests get tags anew, so that one without a reply keeps its own.
+    /// The reply to a request.
     Replies,
     /// One record.
     Records,
 }
 
 /// How many stages there are.
-pub(crate) const STAGES: usize = 8;
+pub(crate) const STAGES: usize = 11;
 
 impl Stage {
     /// The stage after this one.
@@ -37,8 +43,11 @@ impl Stage {
             Stage::Behind => Some(Stage::Banks),
             Stage::Banks => Some(Stage::Ports),
             Stage::Ports => Some(Stage::Blocks),
-            Stage::Blocks => Some(Stage::Memory),
-            Stage::Memory => Some(Stage::Requests),
+            Stage::Blocks => Some(Stage::Loads),
+            Stage::Loads => Some(Stage::Pasts),
+            Stage::Pasts => Some(Stage::Memory),
+            Stage::Memory => Some(Stage::Refills),
+            Stage::Refills => Some(Stage::Requests),
             Stage::Requests => Some(Stage::Replies),
             Stage::Replies => Some(Stage::Records),
             Stage::Records => None,
@@ -46,117 +55,202 @@ impl Stage {
     }
 }
 
-/// The place of the bank's event of this number.
-fn place_of(records: &[Record], order: &[usize], bank: u8, number: u32) -> Option<usize> {
-    for place in order {
-        let item = records.get(*place)?;
-        if item.bank == bank && item.number == number {
-            return Some(*place);
+/// The place of the record that breaks the rule, where there is one.
+fn broken_place(fault: RuleFault, records: &[Record]) -> Option<usize> {
+    let mut before = 0u32;
+    for (place, item) in records.iter().enumerate() {
+        match fault {
+            RuleFault::Port { port, at, .. } if item.log == port => {
+                if before == at {
+                    return Some(place);
+                }
+                before = before.saturating_add(1);
+            }
+            RuleFault::Bank { bank, number, .. } if item.bank == bank && item.number == number => {
+                return Some(place);
+            }
+            _ => {}
         }
     }
     None
 }
 
-/// The places of the bank's records up to this number that touch the second-level block, in the order of their numbers.
-fn touching(
-    alloc: Global,
-    shape: &Shape,
-    best: &Kept,
-    order: &[usize],
-    owners: &[Option<usize>],
-    second: Option<u64>,
-) -> Result<Vec<usize>, NoMemory> {
-    let mut places = Vec::new(alloc);
-    let RuleFault::Bank { bank, number, .. } = best.fault else {
-        return Ok(places);
-    };
-    for place in order {
-        let Some(item) = best.records.get(*place) else {
-            continue;
+/// The records of the best trace, and what links them.
+#[derive(Drop)]
+pub(crate) struct Parts {
+    links: Vec<Link>,
+    /// Whether each record stays, since it shows why the rule is broken.
+    stays: Vec<bool>,
+    /// The place of the last record without which it is not known that the rule is broken.
+    last: usize,
+}
+
+impl Parts {
+    /// The parts of the best trace, of which so many records stay that show why the rule is broken.
+    pub fn new(
+        alloc: Global,
+        shape: &Shape,
+        count: usize,
+        best: &Kept,
+        order: &[usize],
+    ) -> Result<Parts, NoMemory> {
+        let records = best.records.as_slice();
+        let links = links_of(alloc, shape, records, order)?;
+        let stays = vec![in alloc; false; records.len()]?;
+        let mut parts = Parts {
+            links,
+            stays,
+            last: last_needed(best.fault, records),
         };
-        let owner = owners.get(*place).copied().flatten();
-        let touched = second_touched(shape, &best.records, owner, item);
-        if item.bank == bank && item.number <= number && touched == second {
-            places.push(*place)?;
+        if let Some(broken) = broken_place(best.fault, records) {
+            parts.pin(best, broken);
+            parts.pin_history(best, order, broken, count);
+            parts.pin_answered(best, broken);
+        }
+        Ok(parts)
+    }
+
+    fn link(&self, place: usize) -> Option<&Link> {
+        self.links.get(place)
+    }
+
+    /// The record at this place stays, with those of its request that lead to it.
+    fn pin(&mut self, best: &Kept, place: usize) {
+        let owner = self.links.get(place).and_then(|link| link.owner);
+        for (at, item) in best.records.iter().enumerate() {
+            let is_of_request = owner.is_some()
+                && self.links.get(at).and_then(|link| link.owner) == owner
+                && leads_on(&item.event)
+                && !is_later(best.fault, item);
+            if let Some(stays) = self.stays.get_mut(at) {
+                *stays = *stays || at == place || is_of_request;
+            }
         }
     }
-    Ok(places)
-}
 
-/// Whether each record stays, since it shows why the rule is broken: the bank's event that breaks it, and so many of
-/// the last before it that touch its second-level block.
-fn shown(
-    alloc: Global,
-    shape: &Shape,
-    count: usize,
-    best: &Kept,
-    order: &[usize],
-    owners: &[Option<usize>],
-) -> Result<Vec<bool>, NoMemory> {
-    let records = best.records.as_slice();
-    let mut shown = vec![in alloc; false; records.len()]?;
-    let RuleFault::Bank { bank, number, .. } = best.fault else {
-        return Ok(shown);
-    };
-    let Some(broken) = place_of(records, order, bank, number) else {
-        return Ok(shown);
-    };
-    let Some(item) = records.get(broken) else {
-        return Ok(shown);
-    };
-    let owner = owners.get(broken).copied().flatten();
-    let second = second_touched(shape, records, owner, item);
-    let places = touching(alloc, shape, best, order, owners, second)?;
-    let first = places.len().saturating_sub(count.saturating_add(1));
-    for (at, place) in places.iter().enumerate() {
-        if at < first {
-            continue;
-        }
-        if let Some(stays) = shown.get_mut(*place) {
-            *stays = true;
+    /// So many of the last records of the bank stay that touch the second-level block of the one that breaks the rule.
+    fn pin_history(&mut self, best: &Kept, order: &[usize], broken: usize, count: usize) {
+        let RuleFault::Bank { bank, number, .. } = best.fault else {
+            return;
+        };
+        let second = self.link(broken).and_then(|link| link.second);
+        let mut left = count;
+        for place in order.iter().rev() {
+            let Some(item) = best.records.get(*place) else {
+                continue;
+            };
+            let is_of_block = self.link(*place).and_then(|link| link.second) == second;
+            if left > 0 && item.bank == bank && item.number < number && is_of_block {
+                self.pin(best, *place);
+                left -= 1;
+            }
         }
     }
-    Ok(shown)
-}
 
-/// The key of the part that each record belongs to, where it belongs to one. The record that breaks the rule and the
-/// last `count` before it that show why belong to none, so they are not left out.
-pub(crate) fn keys_of(
-    alloc: Global,
-    shape: &Shape,
-    stage: Stage,
-    count: usize,
-    best: &Kept,
-    order: &[usize],
-) -> Result<Vec<Option<u64>>, NoMemory> {
-    let records = best.records.as_slice();
-    let owners = owners(alloc, shape, records, order)?;
-    let shown = shown(alloc, shape, count, best, order, &owners)?;
-    let last = last_needed(best.fault, records);
-    let mut keys = Vec::new(alloc);
-    for (place, item) in records.iter().enumerate() {
-        let owner = owners.get(place).copied().flatten();
-        if shown.get(place) == Some(&true) {
-            keys.push(None)?;
-            continue;
+    /// Where the record is a reply that breaks a port's rule, the last request with its tag and its reply stay.
+    fn pin_answered(&mut self, best: &Kept, broken: usize) {
+        let records = best.records.as_slice();
+        let Some(item) = records.get(broken) else {
+            return;
+        };
+        let Event::Reply { tag: replied, .. } = &item.event else {
+            return;
+        };
+        let mut issue = None;
+        for (place, other) in records.iter().enumerate() {
+            match &other.event {
+                Event::Issue { tag, .. }
+                    if other.log == item.log && tag == replied && place < broken => {
+                    issue = Some(place);
+                }
+                _ => {}
+            }
         }
-        let key = match stage {
-            Stage::Behind => behind(last, place),
+        if let Some(issue) = issue {
+            self.pin(best, issue);
+        }
+    }
+
+    /// The key of the part that each record belongs to, where it belongs to one.
+    pub fn keys(
+        &self,
+        alloc: Global,
+        stage: Stage,
+        best: &Kept,
+    ) -> Result<Vec<Option<u64>>, NoMemory> {
+        let mut keys = Vec::new(alloc);
+        for (place, item) in best.records.iter().enumerate() {
+            let key = match self.link(place) {
+                Some(link) if self.stays.get(place) != Some(&true) => {
+                    self.key(stage, best.fault, &best.records, place, item, link)
+                }
+                _ => None,
+            };
+            keys.push(key)?;
+        }
+        Ok(keys)
+    }
+
+    fn key(
+        &self,
+        stage: Stage,
+        fault: RuleFault,
+        records: &[Record],
+        place: usize,
+        item: &Record,
+        link: &Link,
+    ) -> Option<u64> {
+        match stage {
+            Stage::Behind => {
+                if place > self.last || is_later(fault, item) {
+                    Some(0)
+                } else {
+                    None
+                }
+            }
             Stage::Banks => bank_key(item),
-            Stage::Ports => port_key(records, owner),
-            Stage::Blocks => second_touched(shape, records, owner, item),
+            Stage::Ports => port_key(records, link.owner),
+            Stage::Blocks => link.second,
+            Stage::Loads => {
+                if link.is_read {
+                    as_key(link.owner)
+                } else {
+                    None
+                }
+            }
+            Stage::Pasts => link
+                .second
+                .map(|second| second << 32 | u64::from(link.past)),
             Stage::Memory => None,
-            Stage::Requests => owner.map(|issue| issue as u64),
+            Stage::Refills => as_key(link.refill),
+            Stage::Requests => as_key(link.owner),
             Stage::Replies => reply_key(item, place),
             Stage::Records => Some(place as u64),
-        };
-        keys.push(key)?;
+        }
     }
-    Ok(keys)
 }
 
-fn behind(last: usize, place: usize) -> Option<u64> {
-    if place > last { Some(0) } else { None }
+fn as_key(place: Option<usize>) -> Option<u64> {
+    place.map(|place| place as u64)
+}
+
+/// Whether something comes of the event: a stall changes nothing, and an eviction ends what the request led to.
+fn leads_on(event: &Event) -> bool {
+    !matches!(
+        event,
+        Event::Stall { .. }
+            | Event::SecondStall { .. }
+            | Event::Evict1 { .. }
+            | Event::Evict2 { .. }
+    )
+}
+
+/// Whether the bank's record stands behind the one that breaks the rule, in the order of their numbers.
+fn is_later(fault: RuleFault, item: &Record) -> bool {
+    match fault {
+        RuleFault::Bank { bank, number, .. } => item.bank == bank && item.number > number,
+        RuleFault::Port { .. } => false,
+    }
 }
 
 fn reply_key(item: &Record, place: usize) -> Option<u64> {

@@ -1,22 +1,24 @@
-//! A smaller trace with the same rule broken, by an event of the same kind.
+//! A smaller trace in which the same record breaks the same rule.
 //!
-//! `run_shrink` reads a trace and judges it. Where the outcome is that a port or a bank breaks a rule, it leaves
-//! records out, part by part, and has each trace that is left judged again. The smallest one of which the outcome
-//! is a no by the same rule, upon an event of the same kind, is what it answers. `specs/Shrunk.antt` says what is
-//! known of it. How small it gets is tested, and not proved.
+//! `run_shrink` reads a trace and judges it. Where a port or a bank breaks a rule, it leaves records out, part by part,
+//! and has each trace that is left judged again. It keeps each in which the same record breaks the same rule, and answers
+//! the last and smallest one. `specs/Shrunk.antt` says what is known of it. How small it gets is tested, and not proved.
 #![tactic(auto)]
 
 mod broken;
 mod candidate;
+mod contents;
 mod keys;
 mod numbers;
 mod plan;
 mod requests;
+mod same;
 mod search;
 mod shrink;
-mod tags;
 mod text;
+mod wanted;
 
 pub use broken::RuleFault;
+pub use numbers::Place;
 pub use search::{Observer, Silent};
-pub use shrink::{Shrinking, Shrunk, run_shrink};
+pub use shrink::{Asked, Shrinking, Shrunk, run_shrink};

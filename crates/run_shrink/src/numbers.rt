@@ -4,6 +4,43 @@ use lf_rules::{NO_BANK, NoMemory, Record};
 use std::alloc::Global;
 use trace_views::RecordView;
 
+/// A record of a trace: its log, and how many records of that log stand before it.
+#[derive(Clone, Copy, Debug, PartialEq, Eq)]
+pub struct Place {
+    pub log: u8,
+    pub at: u64,
+}
+
+/// Where each record stands.
+pub(crate) fn places_of(alloc: Global, records: &[Record]) -> Result<Vec<Place>, NoMemory> {
+    let mut counts = [0u64; 256];
+    let mut places = Vec::new(alloc);
+    for item in records {
+        let count = &mut counts[usize::from(item.log)];
+        places.push(Place {
+            log: item.log,
+            at: *count,
+        })?;
+        *count = count.saturating_add(1);
+    }
+    Ok(places)
+}
+
+/// Those that stay.
+pub(crate) fn staying(
+    alloc: Global,
+    places: &[Place],
+    stays: &[bool],
+) -> Result<Vec<Place>, NoMemory> {
+    let mut kept = Vec::new(alloc);
+    for (at, place) in places.iter().enumerate() {
+        if stays.get(at) == Some(&true) {
+            kept.push(*place)?;
+        }
+    }
+    Ok(kept)
+}
+
 /// The places of the records that have a number, by bank and number.
 pub(crate) fn bank_order(alloc: Global, records: &[Record]) -> Result<Vec<usize>, NoMemory> {
     let mut numbered = Vec::new(alloc);

@@ -1,11 +1,11 @@
 //! Which trace is tried next.
 
 use crate::candidate::{Candidate, Kept};
-use crate::keys::{STAGES, Stage, keys_of};
-use crate::numbers::{bank_order, copies, renumbered};
-use crate::requests::{second_of, second_touched};
-use crate::tags::tagged_anew;
-use lf_rules::{Memory, NoMemory, Shape};
+use crate::contents::{patched, touched};
+use crate::keys::{Parts, STAGES, Stage};
+use crate::numbers::{bank_order, copies, renumbered, staying};
+use crate::wanted::Wanted;
+use lf_rules::{NoMemory, Shape};
 use std::alloc::Global;
 
 /// How many of the last records before the one that breaks the rule stay where they touch its second-level block. They
@@ -15,13 +15,14 @@ const SHOWN: usize = 8;
 /// A trace of fewer events than this is short enough to be read, so what shows why the rule is broken stays.
 const SHORT: usize = 30;
 
-/// Leaves parts of the smallest trace out: a half of them, then quarters, down to single ones, stage by stage, and
+/// Leaves parts of the smallest trace out: all of them, a half, then quarters, down to single ones, stage by stage, and
 /// again from the first stage until nothing more is kept. Where the trace is not short by then, half as many records
 /// that show why the rule is broken stay, and so on until none does.
 #[derive(Drop)]
 pub(crate) struct Plan<'a> {
     alloc: Global,
     shape: &'a Shape,
+    wanted: &'a Wanted,
     stage: Stage,
     /// How many records that show why the rule is broken stay.
     shown: usize,
@@ -53,10 +54,16 @@ fn parts_of(alloc: Global, keys: &[Option<u64>]) -> Result<Vec<u64>, NoMemory> {
 
 impl<'a> Plan<'a> {
     /// A plan that begins with the first stage.
-    pub fn new(alloc: Global, shape: &'a Shape, best: &Kept) -> Result<Plan<'a>, NoMemory> {
+    pub fn new(
+        alloc: Global,
+        shape: &'a Shape,
+        wanted: &'a Wanted,
+        best: &Kept,
+    ) -> Result<Plan<'a>, NoMemory> {
         let mut plan = Plan {
             alloc,
             shape,
+            wanted,
             stage: Stage::Behind,
             shown: SHOWN,
             order: Vec::new(alloc),
@@ -73,14 +80,8 @@ impl<'a> Plan<'a> {
     /// Looks at the smallest trace again.
     fn look(&mut self, best: &Kept) -> Result<(), NoMemory> {
         self.order = bank_order(self.alloc, &best.records)?;
-        self.keys = keys_of(
-            self.alloc,
-            self.shape,
-            self.stage,
-            self.shown,
-            best,
-            &self.order,
-        )?;
+        let parts = Parts::new(self.alloc, self.shape, self.shown, best, &self.order)?;
+        self.keys = parts.keys(self.alloc, self.stage, best)?;
         self.parts = parts_of(self.alloc, &self.keys)?;
         if self.stage == Stage::Memory {
             self.parts.push(0)?;
@@ -92,7 +93,7 @@ impl<'a> Plan<'a> {
     fn begin(&mut self, best: &Kept) -> Result<(), NoMemory> {
         self.look(best)?;
         self.at = 0;
-        self.len = (self.parts.len() / 2).max(1);
+        self.len = self.parts.len().max(1);
         Ok(())
     }
 
@@ -149,22 +150,26 @@ impl<'a> Plan<'a> {
 
     /// The smallest trace without the parts that are left out.
     fn candidate(&self, best: &Kept) -> Result<Candidate, NoMemory> {
+        let records = best.records.as_slice();
         if self.stage == Stage::Memory {
             return Ok(Candidate {
-                memory: self.touched_memory(best)?,
-                records: copies(self.alloc, &best.records)?,
+                memory: touched(self.alloc, self.shape, &best.memory, records)?,
+                records: copies(self.alloc, records)?,
+                places: best.places.clone()?,
             });
         }
         let stays = self.stays()?;
-        let records = if self.stage == Stage::Replies {
-            let tagged = tagged_anew(self.alloc, self.shape, &best.records, &self.order, &stays)?;
-            renumbered(self.alloc, &tagged, &self.order, &stays)?
-        } else {
-            renumbered(self.alloc, &best.records, &self.order, &stays)?
-        };
         Ok(Candidate {
-            memory: best.memory.clone()?,
-            records,
+            memory: patched(
+                self.alloc,
+                self.shape,
+                self.wanted,
+                best,
+                &self.order,
+                &stays,
+            )?,
+            records: renumbered(self.alloc, records, &self.order, &stays)?,
+            places: staying(self.alloc, &best.places, &stays)?,
         })
     }
 
@@ -178,24 +183,5 @@ impl<'a> Plan<'a> {
             stays.push(!leaves)?;
         }
         Ok(stays)
-    }
-
-    /// The blocks of memory that some record touches.
-    fn touched_memory(&self, best: &Kept) -> Result<Memory, NoMemory> {
-        let mut seconds = Vec::new(self.alloc);
-        for item in &best.records {
-            if let Some(second) = second_touched(self.shape, &best.records, None, item) {
-                seconds.push(second)?;
-            }
-        }
-        seconds.sort_unstable();
-        let mut memory = Vec::new(self.alloc);
-        for (block, bytes) in &best.memory {
-            let second = second_of(self.shape, u64::from(*block)).unwrap_or(0);
-            if seconds.binary_search(&second).is_ok() {
-                memory.push((*block, bytes.clone()?))?;
-            }
-        }
-        Ok(memory)
     }
 }

@@ -1,6 +1,6 @@
 //! The requests of a trace, and the records that each of them led to.
 
-use lf_rules::{Event, NoMemory, Record, Shape};
+use lf_rules::{Event, NoMemory, Op, Record, Shape};
 use std::alloc::Global;
 use std::collections::BTreeMap;
 
@@ -31,6 +31,17 @@ fn block_at(shape: &Shape, address: u64) -> Option<u64> {
 /// The place of a port's tag among those of all ports.
 pub(crate) fn place_of(port: u8, tag: u8) -> usize {
     usize::from(port) * 256 + usize::from(tag)
+}
+
+/// Whether the issue at this place is that of a load.
+fn is_load(records: &[Record], place: Option<usize>) -> bool {
+    match place
+        .and_then(|place| records.get(place))
+        .map(|item| &item.event)
+    {
+        Some(Event::Issue { op, .. }) => *op == Op::Load,
+        _ => false,
+    }
 }
 
 /// The block that the issue at this place asks for.
@@ -153,21 +164,176 @@ impl Requests {
     }
 }
 
-/// The place of the issue of the request that led to each record, where there is one. `order` has the places of
-/// the records of each bank by their numbers.
-pub(crate) fn owners(
+/// How a request was accepted.
+#[derive(Clone, Copy)]
+struct Accepted {
+    /// How often level two had given its second-level block up by then.
+    past: u32,
+    /// It is a load that found its block or a register that holds it, so no state is left of it.
+    is_read: bool,
+    /// The request whose fetch brought its block back to level one after an eviction, where it is in it.
+    refill: Option<usize>,
+}
+
+/// The parts of a trace that a record belongs to.
+#[derive(Clone, Copy)]
+pub(crate) struct Link {
+    /// The place of the issue of the request that led to it, where there is one.
+    pub owner: Option<usize>,
+    /// The second-level block that it touches.
+    pub second: Option<u64>,
+    /// How often level two had given that block up before.
+    pub past: u32,
+    /// It belongs to a load from which no state is left.
+    pub is_read: bool,
+    /// It belongs to an eviction of level one and the fetch that brought the block back: that one's request.
+    pub refill: Option<usize>,
+}
+
+/// What links the records of a trace.
+#[derive(Drop)]
+struct Links {
+    requests: Requests,
+    /// How often level two gave up each second-level block.
+    pasts: BTreeMap<u64, u32>,
+    /// The place of the last eviction of each block from level one.
+    gone: BTreeMap<u32, usize>,
+    /// By the place of its issue, how each request was accepted.
+    accepted: Vec<Accepted>,
+    links: Vec<Link>,
+}
+
+impl Links {
+    fn new(alloc: Global, count: usize) -> Result<Links, NoMemory> {
+        let accepted = Accepted {
+            past: 0,
+            is_read: false,
+            refill: None,
+        };
+        let link = Link {
+            owner: None,
+            second: None,
+            past: 0,
+            is_read: false,
+            refill: None,
+        };
+        Ok(Links {
+            requests: Requests::new(alloc)?,
+            pasts: BTreeMap::new(alloc),
+            gone: BTreeMap::new(alloc),
+            accepted: vec![in alloc; accepted; count]?,
+            links: vec![in alloc; link; count]?,
+        })
+    }
+
+    /// The request of this issue is accepted by a record of this second-level block.
+    fn accept(&mut self, request: Option<usize>, past: u32, is_read: bool, refill: Option<usize>) {
+        if let Some(issue) = request {
+            if let Some(accepted) = self.accepted.get_mut(issue) {
+                *accepted = Accepted {
+                    past,
+                    is_read,
+                    refill,
+                };
+            }
+        }
+    }
+
+    /// The fetch of a request, where it brings back a block that level one gave up.
+    fn refill(&mut self, block: Option<u64>, request: Option<usize>) -> Option<usize> {
+        let block = u32::try_from(block?).ok()?;
+        let place = self.gone.remove(&block)?;
+        if let Some(link) = self.links.get_mut(place) {
+            link.refill = request;
+        }
+        request
+    }
+
+    /// How the request that its fetch is of was accepted, where the record is in its fetch.
+    fn refill_of(&self, request: Option<usize>) -> Option<usize> {
+        self.accepted.get(request?)?.refill
+    }
+
+    /// Notes the record at this place.
+    fn note(&mut self, shape: &Shape, records: &[Record], place: usize) -> Result<(), NoMemory> {
+        let Some(item) = records.get(place) else {
+            return Ok(());
+        };
+        let owner = self.requests.owner(shape, records, place)?;
+        let second = second_touched(shape, records, owner, item);
+        let past = second
+            .and_then(|second| self.pasts.get(&second).copied())
+            .unwrap_or(0);
+        if let Some(link) = self.links.get_mut(place) {
+            *link = Link {
+                owner,
+                second,
+                past,
+                is_read: false,
+                refill: None,
+            };
+        }
+        let block = owner.and_then(|issue| block_asked(shape, records, issue));
+        match &item.event {
+            Event::Hit { .. } => self.accept(owner, past, is_load(records, owner), None),
+            Event::Primary { .. } => {
+                let refill = self.refill(block, owner);
+                self.accept(owner, past, false, refill);
+            }
+            Event::Merge { .. } => {
+                let fetch = block.and_then(|block| self.requests.first.get(&block).copied());
+                let refill = self.refill_of(fetch);
+                self.accept(owner, past, is_load(records, owner), refill);
+            }
+            Event::Evict1 { block, .. } => {
+                let _ = self.gone.insert(*block, place)?;
+            }
+            Event::Evict2 { block, .. } => {
+                let _ = self
+                    .pasts
+                    .insert(u64::from(*block), past.saturating_add(1))?;
+            }
+            _ => {}
+        }
+        Ok(())
+    }
+
+    /// What is known of the record at this place once all were noted.
+    fn settle(&mut self, item: &Record, place: usize) {
+        let Some(link) = self.links.get_mut(place) else {
+            return;
+        };
+        let Some(accepted) = link.owner.and_then(|issue| self.accepted.get(issue)) else {
+            return;
+        };
+        match &item.event {
+            Event::Evict1 { .. } | Event::Evict2 { .. } => {}
+            Event::Issue { .. } | Event::Reply { .. } | Event::Stall { .. } => {
+                link.past = accepted.past;
+                link.is_read = accepted.is_read;
+                link.refill = accepted.refill;
+            }
+            _ => {
+                link.is_read = accepted.is_read;
+                link.refill = accepted.refill;
+            }
+        }
+    }
+}
+
+/// What links each record to others. `order` has the places of the records of each bank by their numbers.
+pub(crate) fn links_of(
     alloc: Global,
     shape: &Shape,
     records: &[Record],
     order: &[usize],
-) -> Result<Vec<Option<usize>>, NoMemory> {
-    let mut requests = Requests::new(alloc)?;
-    let mut owners = vec![in alloc; None; records.len()]?;
+) -> Result<Vec<Link>, NoMemory> {
+    let mut links = Links::new(alloc, records.len())?;
     for place in order {
-        let request = requests.owner(shape, records, *place)?;
-        if let Some(owner) = owners.get_mut(*place) {
-            *owner = request;
-        }
+        links.note(shape, records, *place)?;
     }
-    Ok(owners)
+    for (place, item) in records.iter().enumerate() {
+        links.settle(item, place);
+    }
+    Ok(links.links)
 }

@@ -30,9 +30,13 @@ impl fmt::Display for Shrunk {
 
     fn fmt<W: fmt::Write>(&self, f: &mut fmt::Formatter<W>) -> fmt::Result {
         let fault = self.fault;
+        let before = self.before;
         let (events, left, checks) = (self.events, self.left, self.checks);
         writeln!(f, "no {fault}")?;
-        write!(f, "shrunk events={events} to={left} checks={checks}")
+        write!(
+            f,
+            "shrunk events={events} to={left} checks={checks} was {before}"
+        )
     }
 }
 

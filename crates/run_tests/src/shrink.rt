@@ -3,10 +3,25 @@
 use lf_rules::Rule;
 use lf_verdict::{Fault, Outcome};
 use run_engine::Counted;
-use run_shrink::{RuleFault, Shrinking, Shrunk, Silent, run_shrink};
+use run_shrink::{Asked, Observer, Place, RuleFault, Shrinking, Shrunk, Silent, run_shrink};
 use std::test::Fail;
 use std::thread::Threads;
 use trace_samples::{C1, C1_TEXT, LOAD, LOAD_MISSES_BOTH_LEVELS, LOADED, trace_of};
+
+/// Keeps what it is told.
+#[derive(Drop)]
+struct Heard {
+    calls: Vec<(u32, usize)>,
+}
+
+impl Observer for Heard {
+    ghost tells = { λ old checks left new. Unit {0} };
+
+    fn judged(&mut self, checks: u32, left: usize) {
+        // Where memory runs out, the test sees that there are too few.
+        let _ = self.calls.push((checks, left));
+    }
+}
 
 /// What a search of at most so many traces comes to.
 fn searched<T: AllocGlobal + Threads + Sync + Send + Copy + 'static>(
@@ -15,7 +30,10 @@ fn searched<T: AllocGlobal + Threads + Sync + Send + Copy + 'static>(
     most: u32,
 ) -> Result<Shrinking, Fail> {
     let mut reader = Counted::new(bytes);
-    run_shrink(rt, &mut reader, C1_TEXT, most, 1000, &Silent).map_err(|_| Fail::new("no answer"))
+    let asked = Asked { first: false, most };
+    run_shrink(rt, &mut reader, C1_TEXT, asked, 1000, &mut Silent).map_err(|_| Fail::new(
+        "no answer",
+    ))
 }
 
 /// What was found, where the verdict names a rule.
@@ -38,6 +56,75 @@ fn a_hit_without_a_line_needs_its_issue_alone(rt: HostRuntime) -> Result<(), Fai
     assert_eq!(rt; (shrunk.events, shrunk.left), (8, 2));
     let due = trace_of(rt.alloc(), &C1, &["L 1 8@8, H 1"])?;
     assert_eq!(rt; shrunk.bytes.as_slice(), due.as_slice());
+    Ok(())
+}
+
+/// A hit to a block that is not there, and behind it a request with a tag that is busy, which the verdict names.
+#[test]
+fn what_broke_first_is_another_fault(rt: HostRuntime) -> Result<(), Fail> {
+    let bytes = trace_of(rt.alloc(), &C1, &[LOAD, LOADED, "L 1 8@8, H 1, L 1 8@8"])?;
+    let mut reader = Counted::new(bytes.as_slice());
+    let asked = Asked {
+        first: true,
+        most: 1000,
+    };
+    let told = run_shrink(&rt, &mut reader, C1_TEXT, asked, 1000, &mut Silent);
+    let Ok(Shrinking::Shrunk(shrunk)) = told else {
+        return Err(Fail::new("no search"));
+    };
+    let rule = Rule::NotPresent;
+    assert_eq!(rt;
+        shrunk.fault,
+        RuleFault::Bank {
+            bank: 0,
+            number: 1,
+            rule
+        }
+    );
+    let places = [Place { log: 0, at: 2 }, Place { log: 1, at: 4 }];
+    assert_eq!(rt; shrunk.places.as_slice(), places.as_slice());
+    let due = found(&rt, bytes.as_slice(), 1000)?;
+    let rule = Rule::TagBusy;
+    assert_eq!(rt;
+        due.before,
+        RuleFault::Port {
+            port: 0,
+            at: 3,
+            rule
+        }
+    );
+    assert_eq!(rt;
+        due.fault,
+        RuleFault::Port {
+            port: 0,
+            at: 1,
+            rule
+        }
+    );
+    Ok(())
+}
+
+#[test]
+fn an_observer_is_told_of_each_check(rt: HostRuntime) -> Result<(), Fail> {
+    let bytes = trace_of(rt.alloc(), &C1, &[LOAD, LOADED, "L 1 8@8, H 1"])?;
+    let mut heard = Heard {
+        calls: Vec::new(rt.alloc()),
+    };
+    let mut reader = Counted::new(bytes.as_slice());
+    let asked = Asked {
+        first: false,
+        most: 1000,
+    };
+    let told = run_shrink(&rt, &mut reader, C1_TEXT, asked, 1000, &mut heard);
+    let Ok(Shrinking::Shrunk(shrunk)) = told else {
+        return Err(Fail::new("no search"));
+    };
+    assert_eq!(rt; heard.calls.len(), shrunk.checks as usize);
+    for (at, (checks, left)) in heard.calls.iter().enumerate() {
+        assert_eq!(rt; *checks as usize, at + 1);
+        assert!(rt; *left >= shrunk.left);
+    }
+    assert_eq!(rt; heard.calls.last(), Some(&(shrunk.checks, shrunk.left)));
     Ok(())
 }
 

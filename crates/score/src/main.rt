@@ -102,8 +102,8 @@ where
             config,
             trace,
             out,
-            checks,
-        } => shrink(rt, config, trace, out, checks, on_terminal),
+            options,
+        } => shrink(rt, config, trace, out, options, on_terminal),
         Request::View {
             config,
             trace,

@@ -1,11 +1,17 @@
-//! `score shrink`: searches for a smaller trace with the same rule broken.
+//! `score shrink`: searches for a smaller trace in which the same event breaks the same rule.
+
+ghost use Rattle.std.specs.Prelude.{◌≡◌};
 
 use crate::configuration::{bytes_at, text_in};
 use crate::ending::Ending;
-use crate::output::{put, refuse, refuse_write, tell};
+use crate::map::times_if;
+use crate::output::{Target, put, refuse, refuse_write, target_of, tell};
 use crate::progress::{clear, reader_by_itself};
+use command_line::ShrinkOptions;
+use explain_lines::Times;
 use run_engine::{Counted, Line};
-use run_shrink::{Observer, Shrinking, Shrunk, run_shrink};
+use run_shrink::{Asked, Observer, Place, Shrinking, Shrunk, run_shrink};
+use std::alloc::{AllocError, Global};
 use std::io;
 use std::rt::Files;
 use std::thread::Threads;
@@ -18,7 +24,9 @@ struct SearchLine<'a, P> {
 }
 
 impl<P: Eprint> Observer for SearchLine<'_, P> {
-    fn judged(&self, checks: u32, left: usize) {
+    ghost tells = { λ old checks left new. new ≡ old };
+
+    fn judged(&mut self, checks: u32, left: usize) {
         if self.on_terminal {
             let _ = eprint!(self.rt; "\rtried {checks}, {left} events left \x1b[K");
         }
@@ -34,23 +42,68 @@ impl<P: Eprint> SearchLine<'_, P> {
     }
 }
 
+/// The map of the trace with the events that stood at these places, by the times of these.
+fn map_of(alloc: Global, times: &Times, places: &[Place]) -> Result<String, AllocError> {
+    let mut counts = [0u64; 256];
+    let mut map = String::new(alloc);
+    for place in places {
+        let log = place.log;
+        let at = counts[usize::from(log)];
+        counts[usize::from(log)] = at.saturating_add(1);
+        if let Some(time) = times.of(log, place.at) {
+            map.push_str(format!(in alloc; "{log} {at} {time}\n")?.as_str())?;
+        }
+    }
+    Ok(map)
+}
+
+/// The name of the map beside the trace.
+fn map_name(alloc: Global, out: &str) -> Result<String, AllocError> {
+    let name = out.strip_suffix(".lfts").unwrap_or(out);
+    format!(in alloc; "{name}.map")
+}
+
+/// Writes what was found, and beside a regular file its map, where there are times.
+fn put_files<T: Print + Files + AllocGlobal>(
+    rt: &T,
+    out: &str,
+    times: Option<&Times>,
+    shrunk: &Shrunk,
+) -> io::Result<()>
+where
+    T::File: Drop,
+{
+    let target = target_of(rt, out);
+    put(rt, out, shrunk.bytes.as_slice())?;
+    match (target, times) {
+        (Target::File, Some(times)) => {
+            let map = map_of(rt.alloc(), times, &shrunk.places)?;
+            let name = map_name(rt.alloc(), out)?;
+            put(rt, name.as_str(), map.as_bytes())
+        }
+        _ => Ok(()),
+    }
+}
+
 /// Writes what was found, and only then tells it.
 fn hand_out<T: Print + Eprint + Files + AllocGlobal>(
     rt: &T,
     out: &str,
+    times: Option<&Times>,
     shrunk: &Shrunk,
 ) -> io::Result<Ending>
 where
     T::File: Drop,
 {
-    if let Err(why) = put(rt, out, shrunk.bytes.as_slice()) {
+    if let Err(why) = put_files(rt, out, times, shrunk) {
         return refuse_write(rt, out, why);
     }
     tell(rt, out, shrunk)?;
     Ok(Ending::No)
 }
 
-/// Judges the configuration before the trace is read, and writes nothing where there is nothing to search for.
+/// Judges the configuration and reads the map before the trace is read, and writes nothing where there is nothing to
+/// search for.
 pub fn shrink<
     T: Print + Eprint + Input + Files + AllocGlobal + Threads + Sync + Send + Copy + 'static,
 >(
@@ -58,7 +111,7 @@ pub fn shrink<
     config: &str,
     trace: &str,
     out: &str,
-    checks: u32,
+    options: ShrinkOptions<'_>,
     on_terminal: bool,
 ) -> io::Result<Ending>
 where
@@ -69,12 +122,20 @@ where
         Ok(text) => text,
         Err(why) => return refuse(rt, out, Line::Refused(why)),
     };
+    let times = match times_if(rt, options.map) {
+        Ok(times) => times,
+        Err(why) => return refuse(rt, out, format_args!("refused {why}")),
+    };
     let mut reader = Counted::new(reader_by_itself(rt, trace, "read", on_terminal));
-    let line = SearchLine { rt, on_terminal };
-    let outcome = run_shrink(rt, &mut reader, text, checks, u32::MAX, &line);
+    let mut line = SearchLine { rt, on_terminal };
+    let asked = Asked {
+        first: options.first,
+        most: options.checks,
+    };
+    let outcome = run_shrink(rt, &mut reader, text, asked, u32::MAX, &mut line);
     line.end();
     match outcome {
-        Ok(Shrinking::Shrunk(shrunk)) => hand_out(rt, out, &shrunk),
+        Ok(Shrinking::Shrunk(shrunk)) => hand_out(rt, out, times.as_ref(), &shrunk),
         Ok(Shrinking::Judged(outcome)) => {
             tell(rt, out, Line::Concluded(&outcome))?;
             Ok(Ending::of(&outcome))

@@ -1,44 +1,26 @@
-use Rattle.std.proofs.Common.{◌≡◌, ℕ, List, length, rules, sym, subst, arith}
+use Rattle.std.proofs.Common.{◌≡◌, ℕ, List, rules, sym, subst}
+use Rattle.std.specs.List.{AllByRecursion}
+use Rattle.lf_rules.specs.declared.event.Record.{Record}
+use Rattle.lf_rules.specs.Fits.{Fits}
+use Rattle.lf_codec.specs.Laws.{IsSomeTrace}
 use Rattle.lf_codec.specs.Trace.{IsTrace}
-use Rattle.run_shrink.specs.declared.broken.Wanted.{Wanted}
-use Rattle.run_shrink.specs.Shrunk.{Breaks}
-use Rattle.run_shrink.proofs.Larger.{breaks}
+use Rattle.run_shrink.proofs.Faults.{is_trace, records_are_fit}
 use Rattle.run_shrink.proofs.shrink.shrunk_of.Goals as goal
 
 pub trace_in-requires : goal.trace_in-requires
 trace_in-requires g c =
-    let is = c.requires.outcome in
     let same : c.deref.result.now ≡ c.args.bytes.items = search rules in
-    record {
-      header = is.trace.header;
-      memory = is.memory;
-      records = is.trace.records;
-      trace = subst (λ (bytes : List ℕ). IsTrace bytes is.trace.header is.memory is.trace.records) (sym same)
-          is.trace.trace;
-    }
+    subst (λ (bytes : List ℕ). IsSomeTrace bytes) (sym same)
+    (is_trace c.args.shape.now c.args.bytes.items c.args.sought.first c.args.fault c.requires.has)
 
-pub returns-clause-shrunk : goal.returns-clause-shrunk
-returns-clause-shrunk g c =
+pub of-requires-clause-fit : goal.of-requires-clause-fit
+of-requires-clause-fit g c =
     let shape = c.args.shape.now in
-    let best = c.in_ok-best.field-0.best in
-    let wanted : Wanted = record { rule = c.rule.result; kind = c.kind.result } in
-    let smaller = c.in_ok-best.ensures.smaller in
-    let events : c.len-events.result ≡ length c.in_ok-header.records.items = search rules in
-    let left : c.len-left.result ≡ length best.records.items = search rules in
-    record {
-      wanted = wanted;
-      before = record {
-        header = c.in_ok-header.header;
-        memory = c.in_ok-header.memory.items;
-        records = c.in_ok-header.records.items;
-        trace = search rules;
-        count = events;
-        outcome = c.requires.outcome;
-        is_wanted = record { rule = search rules; kind = search rules };
-      };
-      after = subst (λ (n : ℕ). Breaks shape wanted best.bytes.items best.fault n) (sym left)
-          (breaks shape wanted best c.in_ok-best.ensures.kept);
-      few = omega (arith, events, left, smaller.records);
-      smaller = smaller.bytes;
-      checks = c.in_ok-best.ensures.checks;
-    }
+    let bytes = c.args.bytes.items in
+    let header = c.in_ok-header.header in
+    let memory = c.in_ok-header.memory.items in
+    let records = c.in_ok-header.records.items in
+    let same : c.deref-2.result.now ≡ records = search rules in
+    let trace : IsTrace bytes header memory records = search rules in
+    subst (λ (rs : List Record). AllByRecursion (Fits shape) rs) (sym same)
+    (records_are_fit shape bytes c.args.sought.first c.args.fault c.requires.has header memory records trace)
