@@ -55,9 +55,9 @@ module _ (shape : Shape) (bytes : List ℕ) (fault : PartFault) (upon : Upon) (f
         first = first;
         records = records ∙ has.records_are;
         marks = marks ∙ ap (λ (start : ℕ). besides_of time start packing.records.records) has.first
-            ∙ ap (λ (h : Header). besides_of time (first_offset h packing.memory.items) packing.records.records) header_is
-            ∙ ap (λ (m : List (ℕ × Bytes)). besides_of time (first_offset first.begins.header m) packing.records.records)
-            memory_is
+            ∙ ap (λ (h : Header). besides_of time (first_offset h packing.memory.items) packing.records.records)
+            header_is ∙ ap (λ (m : List (ℕ × Bytes)). besides_of time (first_offset first.begins.header m)
+            packing.records.records) memory_is
             ∙ ap (besides_of time (first_offset first.begins.header first.memory)) has.records_are;
         cause = subst (λ (m : List (ℕ × Bytes)). IsCause shape m why.records.records most (as_fault fault) why.cause)
             memory_is cause;

@@ -97,5 +97,5 @@ abbrev pub not_complete_text : NotComplete → List ℕ
 not_complete_text why =
     let rs = why.records.records in
     let marks = besides why.marks in
-    request_text rs marks why.place ++ oldest_text rs marks why.place why.oldest ++ at_block_text rs marks why.at_block.items
-    ++ state_text rs marks why.state.items
+    request_text rs marks why.place ++ oldest_text rs marks why.place why.oldest
+    ++ at_block_text rs marks why.at_block.items ++ state_text rs marks why.state.items

@@ -5,7 +5,8 @@ ghost use Rattle.lf_rules.specs.InRange.{IsShape};
 ghost use Rattle.explain_lines.specs.Marks.{told_by, besides};
 ghost use Rattle.lf_verdict.specs.Incomplete.{IsIncompleteIn};
 ghost use Rattle.explain_why.specs.NotComplete.{all_places, first_or, oldest_of, IsStateAtEnd, IsStuck, IsNotComplete};
-ghost use Rattle.explain_why.specs.NotComplete.{request_text, oldest_text, at_block_text, state_text, not_complete_text};
+ghost use Rattle.explain_why.specs.NotComplete.{request_text, oldest_text, at_block_text, state_text};
+ghost use Rattle.explain_why.specs.NotComplete.{not_complete_text};
 
 use crate::why::Asked;
 use crate::{Packing, packed_in};

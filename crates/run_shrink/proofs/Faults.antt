@@ -64,8 +64,12 @@ module _ (shape : Shape) (bytes : List ℕ) where
   first_fault : (told : Fault) (b : Option Broken) (fault : RuleFault) → IsOutcomeOf shape bytes (No told)
       → IfSome b (IsEarliest shape bytes) → fault_in true (No told) b ≡ Some fault
       → HasFault true shape bytes fault
-  first_fault told (Some (broken.Part part upon)) fault is earliest h =
-      (told, upon, is, subst (λ (p : PartFault). IsEarliest shape bytes (broken.Part p upon)) (as_part part fault h) earliest)
+  first_fault told (Some (broken.Part part upon)) fault is earliest h = (
+    told,
+    upon,
+    is,
+    subst (λ (p : PartFault). IsEarliest shape bytes (broken.Part p upon)) (as_part part fault h) earliest,
+  )
   first_fault told (Some (broken.Header field)) fault is earliest h = none_is_some fault h
   first_fault told None fault is earliest h = none_is_some fault h
 

@@ -45,8 +45,8 @@ pub record IsShrunk (shape : Shape) (bytes : List ℕ) (first : Bool) (most : �
   pub smaller : (shrunk.bytes.items ≡ bytes) ⊎ (length shrunk.bytes.items < length bytes)
   pub checks : shrunk.checks ≤ most
 
--- There is a search exactly where the conclusion has a fault of the kind that is asked for. Where memory runs out in it,
--- that is the outcome.
+-- There is a search exactly where the conclusion has a fault of the kind that is asked for. Where memory runs out in
+-- it, that is the outcome.
 abbrev pub IsShrinkingOf : Shape → Asked → Conclusion → Shrinking → Type 0
 IsShrinkingOf shape asked c (shrinkings.Judged outcome) =
     ((outcome ≡ c.outcome) × (fault_in asked.first c.outcome c.broken ≡ None)) ⊎ (outcome ≡ Refused Memory)

@@ -22,10 +22,9 @@ returns-in-Ok-clause-shrinking g c =
     let conclusion = c.args.judged.conclusion in
     let first = c.args.asked.first in
     let found : fault_in first conclusion.outcome conclusion.broken ≡ Some c.in-Some.fault =
-    sym c.of_conclusion-fault.ensures ∙ c.in-Some.is in
-    (
+    sym c.of_conclusion-fault.ensures ∙ c.in-Some.is in (
       found ∙ ap (λ f. Some f) (sym c.in-Ok.ensures.before),
       subst (λ (bytes : List ℕ). IsShrunk c.args.shape.now bytes first c.args.asked.most c.in-Ok.shrunk)
-      (c.requires.kept (is_decided first conclusion.outcome conclusion.broken c.in-Some.fault found))
-      c.in-Ok.ensures.shrunk,
+          (c.requires.kept (is_decided first conclusion.outcome conclusion.broken c.in-Some.fault found))
+          c.in-Ok.ensures.shrunk,
     )
