@@ -2,7 +2,8 @@
 //!
 //! `run_shrink` reads a trace and judges it. Where a port or a bank breaks a rule, it leaves records out, part by part,
 //! and has each trace that is left judged again. It keeps each in which the same record breaks the same rule, and
-//! answers the last and smallest one. `specs/Shrunk.antt` says what is known of it. How small it gets is tested, and not proved.
+//! answers the last and smallest one. `specs/Shrunk.antt` says what is known of it. How small it gets is tested, and not
+//! proved.
 #![tactic(auto)]
 
 mod broken;
