@@ -32,7 +32,7 @@ module _ (shape : Shape) (bytes : List ℕ) (fault : PartFault) (upon : Upon) (f
 
     -- and where the fault is of a bank it is one of the shape's.
     pub bank_of_first : HasBankOf shape (as_fault fault)
-    bank_of_first = part_bank shape (flat_memory first.memory) _ fault first.first.broke
+    bank_of_first = part_bank shape (flat_memory first.memory) _ fault first.first.broke.is
 
     module _ (packing : Packing) (has : IsPackingSoFar bytes packing) where
       header_is : has.header ≡ first.begins.header

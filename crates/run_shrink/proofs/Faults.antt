@@ -104,7 +104,7 @@ module _ (shape : Shape) (bytes : List ℕ) where
   first_bank : (bank number : ℕ) (rule : Rule) (upon : Option Upon)
       → IsEarliest shape bytes (broken.Part (parts.Bank bank number rule) upon) → HasBank shape (Bank bank number rule)
   first_bank bank number rule None h = absurd h
-  first_bank bank number rule (Some upon) h = h.first.broke.is_bank
+  first_bank bank number rule (Some upon) h = h.first.broke.is.is_bank
 
   pub bank_is : (first : Bool) (fault : RuleFault) → HasFault first shape bytes fault → HasBank shape fault
   bank_is false (Port port at rule) h = tt
