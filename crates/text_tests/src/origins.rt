@@ -122,7 +122,9 @@ fn what_is_left_at_the_end(rt: HostRuntime) -> Result<(), Fail> {
     let all = origins_of_all(alloc, &SHAPE, &packed, &places, &parts);
     let all = all.map_err(|_| "out of memory")?;
     assert_eq!(rt; all.len(), 2);
+    assert!(rt; 0 < all[0].records.len());
     assert_eq!(rt; all[0].records[0].place, 3);
+    assert!(rt; 0 < all[1].records.len());
     assert_eq!(rt; all[1].records[0].place, 4);
     Ok(())
 }
