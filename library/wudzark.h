@@ -102,8 +102,8 @@ wudzark_answer wudzark_feed_told(wudzark_board *board, const void *bytes, size_t
 // Whether there is a final fault: no bytes that follow can lead to a yes. Then the line says what broke, for example
 // `broken bank=0 number=5 rule=ReplyData upon log=0 event=1 at=104`. The status is WUDZARK_BROKEN, or WUDZARK_REFUSED
 // if the trace is of another hierarchy. WUDZARK_FINE says that no record so far is at fault, unless memory ran out in
-// a feed. After a feed that refused the format it tells of the records before that. Missing numbers, and logs that wait
-// for one another, are only known at the end.
+// a feed. After a feed that refused the format it tells of the records before that. Missing numbers, and logs that
+// wait for one another, are only known at the end.
 wudzark_answer wudzark_broken(wudzark_board *board, char *line, size_t room);
 
 // The verdict on all bytes that were fed, with its line: WUDZARK_FINE for a yes, WUDZARK_BROKEN for a no. The board is
