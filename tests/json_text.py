@@ -188,7 +188,7 @@ def usage_lines(used: Object) -> List[str]:
 def first_lines(answer: Object) -> List[str]:
     """What broke first, where that is told."""
     upon, first = answer.get("upon"), answer.get("first")
-    if first is None:
+    if upon is None or first is None:
         return []
     where = f"log={upon['log']} event={upon['event']} at={upon['offset']}"
     return ["", f"what broke first in the trace upon {where}:", *fault_lines(first)]
