@@ -151,7 +151,7 @@ fn set_broken(
     let Some(broken) = &why.broken else {
         return object.set("blocks", Value::Array(Vec::new(alloc)));
     };
-    object.set("blocks", blocks_json(alloc, &broken.blocks)?)?;
+    object.set("blocks", blocks_json(alloc, why.below, &broken.blocks)?)?;
     let mut room = room();
     match record_at(listing.records, why.history.place, &mut room) {
         Some(item) => set_carried(object, broken, &item.event),

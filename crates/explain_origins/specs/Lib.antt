@@ -1,5 +1,6 @@
 -- Which records the state comes from that a rule is about, and their text.
 pub mod Accepted
+pub mod Changes
 pub mod Events
 pub mod Freed
 pub mod Further

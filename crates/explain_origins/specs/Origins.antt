@@ -1,5 +1,7 @@
 -- Which records the state comes from that a rule is about.
 use Rattle.std.specs.Prelude.{◌≡◌, ℕ, Bool, List, [], ◌∷◌, ◌++◌, map, Option, Some, None, if◌then◌else◌}
+use Rattle.std.specs.Prelude.{option_to_list}
+use Rattle.std.specs.Option.{option_map}
 use Rattle.std.specs.List.{list_any}
 use Rattle.lf_rules.specs.declared.event.Event.{Event}
 use Rattle.lf_rules.specs.declared.event.Event.TheVariants as events
@@ -8,8 +10,9 @@ use Rattle.lf_rules.specs.declared.rule.Rule.{Rule}
 use Rattle.lf_rules.specs.declared.rule.Rule.TheVariants as rules
 use Rattle.lf_rules.specs.declared.shape.Shape.{Shape}
 use Rattle.lf_rules.specs.Address.{block_of, second_of, offset_of, set1_of, set2_of}
-use Rattle.lf_rules.specs.History.{accepted_by}
-use Rattle.explain_history.specs.Touching.{record_at, and_then}
+use Rattle.lf_rules.specs.Step.{by_below}
+use Rattle.lf_rules.specs.History.{accepted_by, latest_issue}
+use Rattle.explain_history.specs.Touching.{record_at, and_then, all_before}
 use Rattle.explain_origins.specs.declared.origins.Origins.{Origins}
 use Rattle.explain_origins.specs.declared.parts.StatePart.{StatePart}
 use Rattle.explain_origins.specs.declared.parts.StatePart.TheVariants as parts
@@ -18,6 +21,7 @@ use Rattle.explain_origins.specs.Accepted.{origin_at}
 use Rattle.explain_origins.specs.Events.{is_key}
 use Rattle.explain_origins.specs.Parts.{begun, ended}
 use Rattle.explain_origins.specs.Requests.{asked_for}
+use Rattle.explain_origins.specs.Changes.{Changed, unchanged, change_after}
 use Rattle.explain_origins.specs.Seen.{seen_by}
 
 -- ---- records, one after another
@@ -94,14 +98,52 @@ dirty_line (events.Evict1 block mask bytes) = Some (parts.DirtyLine1 block)
 dirty_line (events.Evict2 second masks bytes) = Some (parts.DirtyLine2 second)
 dirty_line _ = None
 
--- the last store to the byte at an address
+-- the same in a cache by itself, of the line that is to be evicted, cleaned or yielded
+abbrev pub dirty_alone : Event → Option StatePart
+dirty_alone (events.Evict1 block mask bytes) = Some (parts.DirtyAlone block)
+dirty_alone (events.Clean1 block mask bytes) = Some (parts.DirtyAlone block)
+dirty_alone (events.Yield1 block) = Some (parts.DirtyAlone block)
+dirty_alone _ = None
+
+abbrev pub dirt : Shape → Event → Option StatePart
+dirt shape event = by_below shape.below (dirty_line event) (dirty_alone event)
+
+-- the last store to the byte at an address, and in a cache by itself its last change
 abbrev pub last_store : Shape → Option ℕ → Option StatePart
 last_store shape None = None
-last_store shape (Some address) = Some (parts.LastStore (block_of shape address) (offset_of shape address))
+last_store shape (Some address) = Some (by_below shape.below
+    (parts.LastStore (block_of shape address) (offset_of shape address))
+    (parts.LastChange (block_of shape address) (offset_of shape address)))
+
+-- the same of a reply, and in a cache by itself before its request took effect
+abbrev pub before_effect : ℕ → Event → StatePart → StatePart
+before_effect log (events.Reply tag size bytes) (parts.LastChange block offset) =
+    parts.ChangeBefore log tag block offset
+before_effect log _ part = part
+
+abbrev pub replied_store : Shape → Option ℕ → ℕ → Event → Option StatePart
+replied_store shape address log event = option_map (before_effect log event) (last_store shape address)
+
+-- what took the right to write the block at an address
+abbrev pub yielded : Shape → Option ℕ → Option StatePart
+yielded shape None = None
+yielded shape (Some address) = Some (parts.Yielded (block_of shape address))
+
+-- the misses of the port that this request would overtake which a hit accepts
+abbrev pub overtaken : Option AcceptedRequest → Event → Option StatePart
+overtaken (Some request) (events.Hit port tag) = Some (parts.Overtaken port request)
+overtaken request _ = None
+
+-- the request that the record names, where the rule is about its bytes
+abbrev pub named_request : Shape → List Record → List (Option ℕ) → Rule → Event → Option AcceptedRequest
+named_request shape rs before rules.Overtakes (events.Hit port tag) =
+    asked_for (latest_issue shape port tag (all_before [] rs before))
+named_request shape rs before _ event = None
 
 -- the request with the tag that is issued
 abbrev pub busy_tag : ℕ → Event → Option StatePart
 busy_tag log (events.Issue op tag size address bytes) = Some (parts.BusyTag log tag)
+busy_tag log (events.Masked op tag block mask bytes) = Some (parts.BusyTag log tag)
 busy_tag log _ = None
 
 -- the request that a reply is to
@@ -121,35 +163,53 @@ line2_of shape (events.SecondMerge block register) = Some (parts.Line2 (second_o
 line2_of shape (events.SecondStall block) = Some (parts.Line2 (second_of shape block))
 line2_of shape _ = None
 
--- the part of the state that a rule is about, where this record breaks it and the fault is at this address
-abbrev pub part_of : Shape → Rule → Option ℕ → Record → Option StatePart
-part_of shape rules.SetFull address r = filled_set shape r.event
-part_of shape rules.PrimaryInFlight address r = registers r.event
-part_of shape rules.NotInFlight address r = registers r.event
-part_of shape rules.WrongRegister address r = registers r.event
-part_of shape rules.RegisterBusy address r = registers r.event
-part_of shape rules.MergeFull address r = registers r.event
-part_of shape rules.NeedlessStall address r = registers r.event
-part_of shape rules.NotHead address r = queue r.event
-part_of shape rules.NotReady address r = Some (parts.Unanswered r.log)
-part_of shape rules.NotOutstanding address r = Some (parts.Outstanding r.log)
-part_of shape rules.FenceBusy address r = Some (parts.Outstanding r.log)
-part_of shape rules.TagBusy address r = busy_tag r.log r.event
-part_of shape rules.ReplySize address r = replied r.log r.event
-part_of shape rules.Present address r = line1_at shape address
-part_of shape rules.SecondPresent address r = line2_of shape r.event
-part_of shape rules.Inclusion address r = evicted_second r.event
-part_of shape rules.EvictMask address r = dirty_line r.event
-part_of shape rules.ReplyData address r = last_store shape address
-part_of shape rules.FillData address r = last_store shape address
-part_of shape rules.EvictData address r = last_store shape address
-part_of shape _ address r = None
+-- the part of the state that a rule is about, where this record breaks it, the fault is at this address, and it names
+-- this request
+abbrev pub part_of : Shape → Rule → Option ℕ → Option AcceptedRequest → Record → Option StatePart
+part_of shape rules.SetFull address named r = filled_set shape r.event
+part_of shape rules.PrimaryInFlight address named r = registers r.event
+part_of shape rules.NotInFlight address named r = registers r.event
+part_of shape rules.WrongRegister address named r = registers r.event
+part_of shape rules.RegisterBusy address named r = registers r.event
+part_of shape rules.MergeFull address named r = registers r.event
+part_of shape rules.NeedlessStall address named r = registers r.event
+part_of shape rules.NotHead address named r = queue r.event
+part_of shape rules.NotReady address named r = Some (parts.Unanswered r.log)
+part_of shape rules.NotOutstanding address named r = Some (parts.Outstanding r.log)
+part_of shape rules.FenceBusy address named r = Some (parts.Outstanding r.log)
+part_of shape rules.TagBusy address named r = busy_tag r.log r.event
+part_of shape rules.ReplySize address named r = replied r.log r.event
+part_of shape rules.Present address named r = line1_at shape address
+part_of shape rules.OutsideHeld address named r = line1_at shape address
+part_of shape rules.NotOwned address named r = yielded shape address
+part_of shape rules.Overtakes address named r = overtaken named r.event
+part_of shape rules.SecondPresent address named r = line2_of shape r.event
+part_of shape rules.Inclusion address named r = evicted_second r.event
+part_of shape rules.EvictMask address named r = dirt shape r.event
+part_of shape rules.ReplyData address named r = replied_store shape address r.log r.event
+part_of shape rules.FillData address named r = last_store shape address
+part_of shape rules.EvictData address named r = last_store shape address
+part_of shape _ address named r = None
+
+-- what is known of the changes of a byte in a cache by itself after these records, to a reader of this port and tag
+abbrev pub changed_by : ℕ → ℕ → Option (ℕ × ℕ) → Changed → List Step → Changed
+changed_by block offset reader now [] = now
+changed_by block offset reader now (step ∷ later) =
+    changed_by block offset reader (change_after block offset reader now step.place step.request step.item.event) later
+
+-- the places of the records that a part comes from, of these
+abbrev pub origin_places : Shape → StatePart → List Step → List ℕ
+origin_places shape (parts.LastChange block offset) all =
+    option_to_list (changed_by block offset None unchanged all).last
+origin_places shape (parts.ChangeBefore port tag block offset) all =
+    option_to_list (changed_by block offset (Some (port, tag)) unchanged all).found
+origin_places shape part all = standing shape part all
 
 -- They are of this part: the records that it comes from, of those at the places before, each with its request.
 pub record AreOriginsOf (shape : Shape) (rs : List Record) (before : List (Option ℕ)) (part : StatePart)
     (origins : Origins) : Type 0 where
   pub part_is : origins.part ≡ part
-  pub records : origins.records.items ≡ map (origin_at rs before) (standing shape part (steps shape [] rs before))
+  pub records : origins.records.items ≡ map (origin_at rs before) (origin_places shape part (steps shape [] rs before))
 
 abbrev pub AreOriginsOfAny : Shape → List Record → List (Option ℕ) → Option StatePart → Option Origins → Type 0
 AreOriginsOfAny shape rs before None origins = origins ≡ None
@@ -160,4 +220,5 @@ AreOriginsOfAny shape rs before (Some part) (Some origins) = AreOriginsOf shape 
 -- these places that the rule looks at.
 abbrev pub AreOrigins : Shape → List Record → List (Option ℕ) → Rule → Option ℕ → Record → Option Origins → Type 0
 AreOrigins shape rs before rule address r origins =
-    AreOriginsOfAny shape rs (seen_by rs rule r before) (part_of shape rule address r) origins
+    AreOriginsOfAny shape rs (seen_by shape rs rule r before)
+    (part_of shape rule address (named_request shape rs before rule r.event) r) origins

@@ -10,7 +10,8 @@ use Rattle.explain_origins.specs.Events.{fill1_block, evict1_block, fill2_second
 use Rattle.explain_origins.specs.Events.{miss2_second}
 use Rattle.explain_origins.specs.Events.{issued_tag, accepted_tag, replied_tag, only, either, within, in_register}
 use Rattle.explain_origins.specs.Events.{cleared_by}
-use Rattle.explain_origins.specs.Events.{store_of_byte, stored_block, written_back}
+use Rattle.explain_origins.specs.Events.{store_of_byte, stored_block, written_back, served_block, yielded_block}
+use Rattle.explain_origins.specs.Events.{owned_or_gone, cleaned_block, filled_or_gone, miss_beside}
 
 -- the block, where it is in this set
 abbrev pub in_set : (ℕ → ℕ) → ℕ → Option ℕ → Option ℕ
@@ -45,35 +46,47 @@ begun shape (parts.Accepted port tag) request r = only tag (accepted_tag port r.
 begun shape (parts.LaterStores port tag block offset address value) request r = store_of_byte block offset request
 begun shape (parts.Served bank) request r = miss1_block request r.event
 begun shape (parts.LastStore block offset) request r = store_of_byte block offset request
+begun shape (parts.LastChange block offset) request r = store_of_byte block offset request
+begun shape (parts.ChangeBefore port tag block offset) request r = store_of_byte block offset request
 begun shape (parts.DirtyLine1 block) request r = only block (either (fill1_block r.event) (stored_block request))
 begun shape (parts.DirtyLine2 second) request r =
     only second (either (fill2_second r.event) (written_back shape r.event))
+begun shape (parts.DirtyAlone block) request r =
+    only block (either (either (fill1_block r.event) (cleaned_block r.event)) (stored_block request))
+begun shape (parts.Yielded block) request r = only block (yielded_block r.event)
+begun shape (parts.Overtaken port one) request r = miss_beside port one request r.event
 
--- What it ends: an eviction takes a line away, a fill frees the registers of its block, an accepted request waits no
--- longer, and a request has one reply. With a store to a byte the one before is no longer the last.
+-- What it ends: an eviction takes a line away, and a fill begins it anew; a fill or a grant frees the registers of its
+-- block, an accepted request waits no longer, and a request has one reply. With a store to a byte the one before is no
+-- longer the last.
 abbrev pub ended : StatePart → Option AcceptedRequest → Record → Option ℕ
-ended (parts.LinesOfSet1 set) request r = evict1_block r.event
+ended (parts.LinesOfSet1 set) request r = filled_or_gone r.event
 ended (parts.LinesOfSet2 set) request r = evict2_second r.event
-ended parts.Registers1 request r = fill1_block r.event
+ended parts.Registers1 request r = served_block r.event
 ended parts.Registers2 request r = fill2_second r.event
 ended (parts.Queue port) request r = accepted_tag port r.event
 ended (parts.Unanswered port) request r = replied_tag port r.log r.event
 ended (parts.Outstanding port) request r = replied_tag port r.log r.event
 ended (parts.BusyTag port tag) request r = replied_tag port r.log r.event
 ended (parts.WithinSecond second) request r = either (fill1_block r.event) (evict1_block r.event)
-ended (parts.Register1 register) request r = fill1_block r.event
+ended (parts.Register1 register) request r = served_block r.event
 ended (parts.Register2 register) request r = fill2_second r.event
-ended (parts.Freed1 register) request r = fill1_block r.event
+ended (parts.Freed1 register) request r = served_block r.event
 ended (parts.Freed2 register) request r = fill2_second r.event
-ended (parts.Targets1 block) request r = fill1_block r.event
+ended (parts.Targets1 block) request r = served_block r.event
+ended (parts.Overtaken port one) request r = served_block r.event
 ended (parts.Targets2 second) request r = fill2_second r.event
-ended (parts.Line1 block) request r = evict1_block r.event
+ended (parts.Line1 block) request r = filled_or_gone r.event
 ended (parts.Line2 second) request r = evict2_second r.event
 ended (parts.NamedRequest port tag bank number) request r = accepted_tag port r.event
 ended (parts.Accepted port tag) request r = replied_tag port r.log r.event
 ended (parts.LaterStores port tag block offset address value) request r =
     cleared_by tag (accepted_tag port r.event) block
-ended (parts.Served bank) request r = fill1_block r.event
+ended (parts.Served bank) request r = served_block r.event
 ended (parts.LastStore block offset) request r = store_of_byte block offset request
+ended (parts.LastChange block offset) request r = store_of_byte block offset request
+ended (parts.ChangeBefore port tag block offset) request r = store_of_byte block offset request
 ended (parts.DirtyLine1 block) request r = evict1_block r.event
+ended (parts.DirtyAlone block) request r = evict1_block r.event
+ended (parts.Yielded block) request r = owned_or_gone r.event
 ended (parts.DirtyLine2 second) request r = evict2_second r.event

@@ -36,6 +36,12 @@ heading (parts.Served bank) = codes "the last fill of the bank, behind the targe
 heading (parts.LastStore block offset) = codes "the last accepted store of the first byte that differs"
 heading (parts.DirtyLine1 block) = codes "the fill of the line and the stores to it"
 heading (parts.DirtyLine2 second) = codes "the fill of the line and the evictions of dirty bytes to it"
+heading (parts.DirtyAlone block) = codes "the fill of the line, the stores to it and its cleanings"
+heading (parts.Yielded block) = codes "the yield of the line"
+heading (parts.Overtaken port request) = codes "the waiting requests of the port with a byte of the request"
+heading (parts.LastChange block offset) = codes "the last change of the first byte that differs"
+heading (parts.ChangeBefore port tag block offset) =
+    codes "the last change of the first byte that differs before the request took effect"
 
 -- the line of the request that a record accepts, where it accepts one
 abbrev pub request_line : List Record → List Beside → Option ℕ → List ℕ

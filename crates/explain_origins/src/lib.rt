@@ -8,6 +8,7 @@
 #![tactic(auto)]
 
 mod accepted;
+mod changes;
 mod events;
 mod freed;
 mod further;
@@ -25,4 +26,5 @@ pub use further::further_of;
 pub use lf_rules::NoMemory;
 pub use origins::{BrokenRule, Origins, origins_of};
 pub use parts::StatePart;
+pub use requests::AcceptedRequest;
 pub use text::OriginsText;

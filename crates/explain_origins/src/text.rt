@@ -48,6 +48,14 @@ impl StatePart {
             StatePart::DirtyLine2 { .. } => {
                 "the fill of the line and the evictions of dirty bytes to it"
             }
+            StatePart::DirtyAlone { .. } => "the fill of the line, the stores to it and its cleanings",
+            StatePart::Yielded { .. } => "the yield of the line",
+            StatePart::Overtaken { .. } =>
+                "the waiting requests of the port with a byte of the request",
+            StatePart::LastChange { .. } => "the last change of the first byte that differs",
+            StatePart::ChangeBefore { .. } => {
+                "the last change of the first byte that differs before the request took effect"
+            }
         }
     }
 }

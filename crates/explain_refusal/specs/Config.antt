@@ -39,6 +39,7 @@ level_table Two = codes "level2"
 abbrev pub table_of : Key → List ℕ
 table_of (keys.Of level part) = level_table level
 table_of keys.Blocks = level_table Two
+table_of keys.Dirty = level_table One
 table_of _ = []
 
 -- ---- what is asked
@@ -59,6 +60,8 @@ values_of (keys.Of level parts.Registers) =
 values_of (keys.Of level parts.Entries) =
     codes "a whole number from 1 to 8, which may be absent where the organisation is not explicit"
 values_of keys.Blocks = codes "1, 2 or 4, the blocks of a second-level block, and 1 where it is absent"
+values_of keys.Below = codes "\"level2\" or \"outside\", and \"level2\" where it is absent"
+values_of keys.Dirty = codes "\"byte\" or, in a cache by itself, \"line\", and \"byte\" where it is absent"
 
 -- what is wrong with a key, what it may be, and where it stands
 abbrev pub key_fault_text : Key → List ℕ → List ℕ → List ℕ

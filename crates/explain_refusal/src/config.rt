@@ -80,6 +80,7 @@ fn table_of(key: Key) -> &'static str
     match key {
         Key::Of(level, _) => level_table(level),
         Key::Blocks => level_table(LevelKey::Two),
+        Key::Dirty => level_table(LevelKey::One),
         _ => "",
     }
 }
@@ -101,6 +102,8 @@ fn key_name(key: Key) -> &'static str
         Key::Of(_, Part::Registers) => "registers",
         Key::Of(_, Part::Entries) => "entries",
         Key::Blocks => "blocks",
+        Key::Below => "below",
+        Key::Dirty => "dirty",
     }
 }
 
@@ -127,6 +130,9 @@ fn values_of(key: Key) -> &'static str
             "a whole number from 1 to 8, which may be absent where the organisation is not explicit"
         }
         Key::Blocks => "1, 2 or 4, the blocks of a second-level block, and 1 where it is absent",
+        Key::Below => "\"level2\" or \"outside\", and \"level2\" where it is absent",
+        Key::Dirty =>
+            "\"byte\" or, in a cache by itself, \"line\", and \"byte\" where it is absent",
     }
 }
 

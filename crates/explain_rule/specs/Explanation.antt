@@ -44,6 +44,7 @@ IsBrokenBy shape memory rs (Bank bank number rule) broken =
 -- comes from, of those that are told beside them, and of the records before.
 pub record IsExplanation (shape : Shape) (memory : List (ℕ × Bytes)) (rs : List Record) (breach : Breach) (most : ℕ)
     (why : Explanation) : Type 0 where
+  pub below : why.below ≡ shape.below
   pub rule : why.rule ≡ rule_of breach
   pub limit : why.limit ≡ limit_at shape (rule_of breach) why.broken (record_at rs why.history.place)
   pub history : IsHistoryOf shape rs breach most why.history

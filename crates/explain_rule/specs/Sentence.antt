@@ -32,3 +32,6 @@ sentence rules.SecondPresent = codes "level two does not have the second-level b
 sentence rules.NotFetched = codes "a level-two register holds the second-level block"
 sentence rules.Inclusion = codes "level one has no line and no register on the second-level block"
 sentence rules.FenceBusy = codes "no tag of the port is busy"
+sentence rules.NotOwned = codes "the request is a load, or level one has the right to write the block"
+sentence rules.Overtakes = codes "no waiting request of the port has a byte of the request"
+sentence rules.OutsideHeld = codes "level one does not have the block that the outside writes"

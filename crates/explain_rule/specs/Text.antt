@@ -44,5 +44,5 @@ fault_text rs marks why =
 -- them, and the records before
 abbrev pub explained_text : List Record → List Beside → Explanation → List ℕ
 explained_text rs marks why =
-    fault_text rs marks why ++ state_text why.broken ++ origins_text rs marks why.origins
+    fault_text rs marks why ++ state_text why.below why.broken ++ origins_text rs marks why.origins
     ++ further_text rs marks why.further.items ++ before_text rs marks why.history.before.items

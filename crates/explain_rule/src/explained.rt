@@ -176,7 +176,10 @@ impl fmt::Display for Explained<'_> {
             listing,
             why: self.why,
         };
-        let state = State(&self.why.broken);
+        let state = State {
+            below: self.why.below,
+            broken: &self.why.broken,
+        };
         let origins = OriginsLines {
             listing,
             origins: &self.why.origins,

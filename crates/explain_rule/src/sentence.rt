@@ -38,5 +38,8 @@ pub fn sentence_of(rule: Rule) -> &'static str
         Rule::NotFetched => "a level-two register holds the second-level block",
         Rule::Inclusion => "level one has no line and no register on the second-level block",
         Rule::FenceBusy => "no tag of the port is busy",
+        Rule::NotOwned => "the request is a load, or level one has the right to write the block",
+        Rule::Overtakes => "no waiting request of the port has a byte of the request",
+        Rule::OutsideHeld => "level one does not have the block that the outside writes",
     }
 }

@@ -7,9 +7,10 @@ use Rattle.lf_rules.specs.declared.event.Record.{Record}
 use Rattle.lf_rules.specs.declared.rule.Rule.{Rule}
 use Rattle.lf_rules.specs.Address.{FlatMemory, no_bank}
 use Rattle.lf_rules.specs.Order.{log_at, after_next}
+use Rattle.lf_rules.specs.Step.{step_clauses}
 use Rattle.lf_rules.specs.Run.{first_failing, state_after}
 use Rattle.lf_rules.specs.State.{update, State, opening, seen_by}
-use Rattle.lf_rules.specs.Table.{OfBoth, clauses}
+use Rattle.lf_rules.specs.Table.{OfBoth}
 use Rattle.model_plain.specs.Plain.{state_of, IsMachine}
 use Rattle.lf_model.specs.declared.outcome.Recheck.{Recheck}
 use Rattle.lf_model.specs.declared.outcome.Recheck.TheVariants.{Accepted, NotAnOrder, Broken}
@@ -53,8 +54,8 @@ recheck_from shape state left next place (log ∷ order) =
       | r ∷ rest ↦
           let later = recheck_from shape (state_after shape state r) (after_next left log) (next_after next r)
           (place + 1) order in
-          judged_at (is_numbered next r) (first_failing OfBoth (clauses shape (seen_by r.log r.bank state) r)) place
-          later
+          judged_at (is_numbered next r) (first_failing OfBoth (step_clauses shape (seen_by r.log r.bank state) r))
+          place later
     ]
 
 abbrev pub recheck_of : Shape → FlatMemory → List (List Record) → List ℕ → Recheck

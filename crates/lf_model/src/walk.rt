@@ -10,6 +10,7 @@ ghost use Rattle.lf_model.specs.Walk.{count_left, is_empty, is_numbered, next_af
 ghost use Rattle.lf_model.specs.Walk.{decided, recheck_of, walked};
 ghost use Rattle.lf_rules.specs.Address.{flat_memory};
 ghost use Rattle.lf_rules.specs.InRange.{IsShape};
+ghost use Rattle.lf_rules.specs.declared.shape.Below.TheVariants as Below;
 ghost use Rattle.lf_rules.specs.Run.{NameTheirLogs};
 ghost use Rattle.lf_model.specs.Recheck.{lists_of, IsRecheck};
 
@@ -90,7 +91,8 @@ impl Walk {
         memory: &Memory,
         logs: &Logs,
     ) -> Result<Walk, NoMemory>
-        requires { IsShape shape.now }
+        requires in_range { IsShape shape.now }
+        requires two { shape.now.below ≡ Below.LevelTwo }
         ensures walk { IfOk result (λ walk. IsWalk walk (lists_of logs.now)) }
         ensures shape { IfOk result (λ walk. walk.machine.shape ≡ shape.now) }
         ensures answer { IfOk result (λ walk. (order : List ℕ) →
@@ -199,6 +201,7 @@ pub fn recheck(
     order: &[u8],
 ) -> Result<Recheck, NoMemory>
     requires in_range { IsShape shape.now }
+    requires two { shape.now.below ≡ Below.LevelTwo }
     requires few { length logs.now.items ≤ 32 }
     requires short { All (λ log. length log.items ≤ 2 ^ 24) logs.now.items }
     requires named { NameTheirLogs (lists_of logs.now) }

@@ -1,5 +1,5 @@
-//! The plain machine: the rules of `lf_rules` over one state of the whole system, kept as lists and maps. It is
-//! made to be read beside the table of rules, not to be fast.
+//! The plain machine: the rules of `lf_rules` with level two over one state of the whole system, kept as lists and
+//! maps. It is made to be read beside the table of rules, not to be fast.
 //!
 //! A `Machine` takes one record after another. It names the first rule that a record breaks, or else the
 //! record takes effect, as the table of rules says it.

@@ -78,6 +78,11 @@ fn kind_code(event: &Event) -> u8
         Event::Evict2 { .. } => 13,
         Event::Fence => 14,
         Event::SecondMerge { .. } => 15,
+        Event::Masked { .. } => 16,
+        Event::Grant { .. } => 17,
+        Event::Clean1 { .. } => 18,
+        Event::Yield1 { .. } => 19,
+        Event::Outside { .. } => 20,
     }
 }
 

@@ -37,6 +37,7 @@ pub(crate) fn place_of(port: u8, tag: u8) -> usize {
 fn block_asked(shape: &Shape, records: &[Record], place: usize) -> Option<u64> {
     match &records.get(place)?.event {
         Event::Issue { address, .. } => block_at(shape, *address),
+        Event::Masked { block, .. } => Some(u64::from(*block)),
         _ => None,
     }
 }
@@ -55,7 +56,12 @@ pub(crate) fn second_touched(
         | Event::SecondHit { block }
         | Event::SecondPrimary { block, .. }
         | Event::SecondMerge { block, .. }
-        | Event::SecondStall { block } => second_of(shape, u64::from(*block)),
+        | Event::SecondStall { block }
+        | Event::Masked { block, .. }
+        | Event::Grant { block }
+        | Event::Clean1 { block, .. }
+        | Event::Yield1 { block }
+        | Event::Outside { block, .. } => second_of(shape, u64::from(*block)),
         Event::Issue { address, .. } => second_of(shape, block_at(shape, *address)?),
         _ => second_of(shape, block_asked(shape, records, owner?)?),
     }
@@ -121,7 +127,7 @@ impl Requests {
             return Ok(None);
         };
         match &item.event {
-            Event::Issue { tag, .. } => {
+            Event::Issue { tag, .. } | Event::Masked { tag, .. } => {
                 self.issued(item.log, *tag, place);
                 Ok(Some(place))
             }
@@ -144,11 +150,14 @@ impl Requests {
             | Event::Evict1 { block, .. }
             | Event::SecondHit { block }
             | Event::SecondMerge { block, .. }
-            | Event::SecondStall { block } => Ok(self.of_block(*block)),
+            | Event::SecondStall { block }
+            | Event::Grant { block }
+            | Event::Clean1 { block, .. }
+            | Event::Yield1 { block } => Ok(self.of_block(*block)),
             Event::Fill2 { block, .. } | Event::Evict2 { block, .. } => {
                 Ok(self.second.get(&u64::from(*block)).copied())
             }
-            Event::Fence => Ok(None),
+            Event::Fence | Event::Outside { .. } => Ok(None),
         }
     }
 }

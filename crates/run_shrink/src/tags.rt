@@ -59,7 +59,7 @@ fn tags_of(
             continue;
         }
         match &item.event {
-            Event::Issue { .. } => {
+            Event::Issue { .. } | Event::Masked { .. } => {
                 if let Some(tag) = tags.get_mut(place) {
                     *tag = held.take(item.log);
                 }
@@ -85,6 +85,7 @@ fn tag_at(tags: &[Option<u8>], owners: &[Option<usize>], place: usize) -> Option
 fn set_tag(event: &mut Event, anew: u8) {
     match event {
         Event::Issue { tag, .. }
+        | Event::Masked { tag, .. }
         | Event::Reply { tag, .. }
         | Event::Hit { tag, .. }
         | Event::Primary { tag, .. }

@@ -4,7 +4,7 @@ use explain_history::{packed, places_in_order};
 use explain_lines::{Listing, Marks};
 use explain_origins::{BrokenRule, Origins, OriginsText, origins_of};
 use lf_codec::Packed;
-use lf_rules::{Level, OrgShape, Rule, Shape};
+use lf_rules::{Below, Grain, Level, OrgShape, Rule, Shape};
 use std::alloc::{AllocError, Global};
 use std::process::Abort;
 use std::test::Fail;
@@ -24,6 +24,8 @@ const SHAPE: Shape = Shape {
     factor: 1,
     level1: LEVEL,
     level2: LEVEL,
+    below: Below::LevelTwo,
+    grain: Grain::Byte,
 };
 
 /// The text of origins over records with these marks.

@@ -2,7 +2,7 @@
 
 use explain_lines::Times;
 use lf_codec::Header;
-use lf_rules::{Event, Level, OrgShape, Record, Rule, Shape};
+use lf_rules::{Below, Event, Grain, Level, OrgShape, Record, Rule, Shape};
 use std::test::Fail;
 use wave_signals::{Marker, SaveFile, View, Wave};
 
@@ -115,6 +115,8 @@ const SHAPE: Shape = Shape {
         ways: 1,
         organisation: OrgShape::Implicit { registers: 100 },
     },
+    below: Below::LevelTwo,
+    grain: Grain::Byte,
 };
 
 #[test]

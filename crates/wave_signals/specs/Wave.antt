@@ -1,5 +1,5 @@
 -- The wave of a trace: what each record changes. A record's place is the number of records that stand before it.
-use Rattle.std.specs.Prelude.{ℕ, ◌+◌, ◌==◌, ◌&&◌, ◌||◌, not, Bool, true, false, List, [], ◌∷◌, ◌++◌, codes, nat_le}
+use Rattle.std.specs.Prelude.{ℕ, ◌+◌, ◌*◌, ◌==◌, ◌&&◌, ◌||◌, not, Bool, true, false, List, [], ◌∷◌, ◌++◌, codes, nat_le}
 use Rattle.std.specs.Prelude.{if◌then◌else◌, Option, Some, None, filter, count_by, flat_map}
 use Rattle.std.specs.Fmt.{decimal}
 use Rattle.std.specs.List.{range_with_len}
@@ -30,15 +30,20 @@ use Rattle.wave_signals.specs.Times.{none_came, came_of, one_more_of, told_time}
 abbrev pub is_other : ℕ → ℕ → BusyTag → Bool
 is_other port tag b = not (b.port == port) || not (b.tag == tag)
 
-abbrev pub busy_by : Event → ℕ → List BusyTag → List BusyTag
-busy_by (events.Issue op tag size address bytes) port busy =
+abbrev pub busy_with : ℕ → ℕ → ℕ → List BusyTag → List BusyTag
+busy_with port tag address busy =
     filter (is_other port tag) busy ++ (record { port = port; tag = tag; address = address }) ∷ []
-busy_by (events.Reply tag size bytes) port busy = filter (is_other port tag) busy
-busy_by _ port busy = busy
+
+-- a masked request asks for bytes of its block, which has so many
+abbrev pub busy_by : ℕ → Event → ℕ → List BusyTag → List BusyTag
+busy_by block_size (events.Issue op tag size address bytes) port busy = busy_with port tag address busy
+busy_by block_size (events.Masked op tag block mask bytes) port busy = busy_with port tag (block * block_size) busy
+busy_by block_size (events.Reply tag size bytes) port busy = filter (is_other port tag) busy
+busy_by block_size _ port busy = busy
 
 -- the busy tags after a record
-abbrev pub busy_after : List BusyTag → Record → List BusyTag
-busy_after busy r = busy_by r.event r.log busy
+abbrev pub busy_after : ℕ → List BusyTag → Record → List BusyTag
+busy_after block_size busy r = busy_by block_size r.event r.log busy
 
 -- how many tags of the port are busy
 abbrev pub outstanding : List BusyTag → ℕ → ℕ
@@ -51,17 +56,25 @@ abbrev pub event_signal : ℕ → ℕ → Event → Signal
 event_signal log bank (events.Issue op tag size address bytes) = signals.PortEvent log
 event_signal log bank (events.Reply tag size bytes) = signals.PortEvent log
 event_signal log bank events.Fence = signals.PortEvent log
+event_signal log bank (events.Masked op tag block mask bytes) = signals.PortEvent log
 event_signal log bank event = signals.BankEvent bank
 
--- what a port's record names, its tag, and how many of the port's tags are busy then
-abbrev pub port_changes : ℕ → ℕ → ℕ → Event → List ℕ
-port_changes tags busy port (events.Issue op tag size address bytes) =
+-- a request for the bytes at an address: its tag, the address, and that the tag is busy
+abbrev pub issued_changes : ℕ → ℕ → ℕ → ℕ → List ℕ
+issued_changes tags port tag address =
     number_change tag (signals.PortTag port) ++ (number_change address (signals.Address port)
-    ++ (busy_change tags true port tag ++ number_change busy (signals.Outstanding port)))
-port_changes tags busy port (events.Reply tag size bytes) =
+    ++ busy_change tags true port tag)
+
+-- what a port's record names, its tag, and how many of the port's tags are busy then
+abbrev pub port_changes : ℕ → ℕ → ℕ → ℕ → Event → List ℕ
+port_changes block_size tags busy port (events.Issue op tag size address bytes) =
+    issued_changes tags port tag address ++ number_change busy (signals.Outstanding port)
+port_changes block_size tags busy port (events.Masked op tag block mask bytes) =
+    issued_changes tags port tag (block * block_size) ++ number_change busy (signals.Outstanding port)
+port_changes block_size tags busy port (events.Reply tag size bytes) =
     number_change tag (signals.PortTag port) ++ (busy_change tags false port tag
     ++ number_change busy (signals.Outstanding port))
-port_changes tags busy port event = []
+port_changes block_size tags busy port event = []
 
 -- the request that a bank's record names
 abbrev pub request_changes : ℕ → ℕ → ℕ → List ℕ
@@ -85,20 +98,26 @@ bank_changes bank (events.SecondHit block) = number_change block (signals.Block 
 bank_changes bank (events.SecondStall block) = number_change block (signals.Block bank)
 bank_changes bank (events.Fill2 second bytes) = number_change second (signals.Block bank)
 bank_changes bank (events.Evict2 second masks bytes) = number_change second (signals.Block bank)
+bank_changes bank (events.Grant block) = number_change block (signals.Block bank)
+bank_changes bank (events.Clean1 block mask bytes) = number_change block (signals.Block bank)
+bank_changes bank (events.Yield1 block) = number_change block (signals.Block bank)
+bank_changes bank (events.Outside block mask bytes) = number_change block (signals.Block bank)
 bank_changes bank event = []
 
-abbrev pub named_by : ℕ → ℕ → ℕ → ℕ → ℕ → Event → List ℕ
-named_by tags busy log bank number (events.Issue op tag size address bytes) =
-    port_changes tags busy log (events.Issue op tag size address bytes)
-named_by tags busy log bank number (events.Reply tag size bytes) =
-    port_changes tags busy log (events.Reply tag size bytes)
-named_by tags busy log bank number events.Fence = []
-named_by tags busy log bank number event = number_change number (signals.Number bank) ++ bank_changes bank event
+abbrev pub named_by : ℕ → ℕ → ℕ → ℕ → ℕ → ℕ → Event → List ℕ
+named_by block_size tags busy log bank number (events.Issue op tag size address bytes) =
+    port_changes block_size tags busy log (events.Issue op tag size address bytes)
+named_by block_size tags busy log bank number (events.Masked op tag block mask bytes) =
+    port_changes block_size tags busy log (events.Masked op tag block mask bytes)
+named_by block_size tags busy log bank number (events.Reply tag size bytes) =
+    port_changes block_size tags busy log (events.Reply tag size bytes)
+named_by block_size tags busy log bank number events.Fence = []
+named_by block_size tags busy log bank number event = number_change number (signals.Number bank) ++ bank_changes bank event
 
--- all that a record changes, where so many tags of its port are busy then
-abbrev pub record_changes : ℕ → ℕ → Record → List ℕ
-record_changes tags busy r = text_change (word_of r.event) (event_signal r.log r.bank r.event)
-    ++ named_by tags busy r.log r.bank r.number r.event
+-- all that a record changes, where blocks have so many bytes and so many tags of its port are busy then
+abbrev pub record_changes : ℕ → ℕ → ℕ → Record → List ℕ
+record_changes block_size tags busy r = text_change (word_of r.event) (event_signal r.log r.bank r.event)
+    ++ named_by block_size tags busy r.log r.bank r.number r.event
 
 -- ---- the registers that it changes, of which so many of each level have signals
 
@@ -113,6 +132,8 @@ freed_registers registers level bank block held = flat_map (freed_by registers l
 -- the registers that a fill frees, of those that are held before it
 abbrev pub fill_changes : View → List HeldRegister → List HeldRegister → ℕ → Event → List ℕ
 fill_changes view level1 level2 bank (events.Fill1 block bytes) =
+    freed_registers view.level1_registers levels.One bank block level1
+fill_changes view level1 level2 bank (events.Grant block) =
     freed_registers view.level1_registers levels.One bank block level1
 fill_changes view level1 level2 bank (events.Fill2 second bytes) =
     freed_registers view.level2_registers levels.Two bank second level2
@@ -138,6 +159,7 @@ register_changes view level1 level2 bank (events.Primary port tag register) =
 register_changes view level1 level2 bank (events.Merge port tag register) =
     miss_changes view.level1_registers levels.One level1 bank register
 register_changes view level1 level2 bank (events.Fill1 block bytes) = count_change levels.One level1 bank
+register_changes view level1 level2 bank (events.Grant block) = count_change levels.One level1 bank
 register_changes view level1 level2 bank (events.SecondPrimary block register) =
     miss_changes view.level2_registers levels.Two level2 bank register
 register_changes view level1 level2 bank (events.SecondMerge block register) =
@@ -232,7 +254,7 @@ beginning view place told level1 level2 r =
 abbrev pub moment : View → ℕ → List BusyTag → List HeldRegister → List HeldRegister → Flows → Record → List ℕ
 moment view place busy level1 level2 flows r =
     standing view place busy level1 level2 flows ++ (mark view.marker place
-    ++ (record_changes view.tags (outstanding busy r.log) r
+    ++ (record_changes view.block view.tags (outstanding busy r.log) r
     ++ (register_changes view level1 level2 r.bank r.event
     ++ (traffic_changes r.bank (counts_of (flow_at flows.banks r.bank)) r.event
     ++ (time place (codes "9") ++ text_change [] (event_signal r.log r.bank r.event))))))
@@ -275,7 +297,7 @@ next wave r = record {
   view = wave.view;
   place = wave.place + 1;
   counts = one_more_of wave.counts r.log;
-  busy = busy_after wave.busy r;
+  busy = busy_after wave.view.block wave.busy r;
   level1 = level1_after wave.view.block wave.busy r.bank r.event wave.level1;
   level2 = level2_after wave.view.factor r.bank r.event wave.level2;
   flows = flows_after wave.flows r;

@@ -244,6 +244,7 @@ impl fmt::Display for Moment<'_> {
             place,
         };
         let changes = RecordChanges {
+            size: view.block,
             tags: view.tags,
             outstanding: outstanding(busy, item.log),
             item,

@@ -157,7 +157,7 @@ impl Wave {
         self.begin(times, item, text)?;
         apply_level1(&mut self.level1, self.view.block, &self.busy, item)?;
         apply_level2(&mut self.level2, self.view.factor, item)?;
-        apply(&mut self.busy, item)?;
+        apply(&mut self.busy, self.view.block, item)?;
         self.traffic.take(item)?;
         self.show(item, text)?;
         self.counts.take(item.log);
