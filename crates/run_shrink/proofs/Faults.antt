@@ -101,6 +101,6 @@ module _ (shape : Shape) (bytes : List ℕ) where
   records_are_fit first fault h header memory records trace =
       let is = (a_no first fault h).1 in
       let same = bytes_are_of_one_trace bytes header is.trace.header memory is.memory records is.trace.records trace
-          is.trace.trace in
+      is.trace.trace in
       subst (λ (rs : List Record). AllByRecursion (Fits shape) rs) (sym same.2)
       (records_fit shape is.trace.header is.memory is.trace.records is.trace.trace.fits is.trace.agrees)

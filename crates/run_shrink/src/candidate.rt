@@ -9,6 +9,7 @@ ghost use Rattle.run_shrink.specs.Candidate.{IsKept, IsSmallerThan};
 ghost use Rattle.run_shrink.specs.Wanted.{IsWanted};
 
 use crate::broken::RuleFault;
+use crate::mend::mend;
 use crate::numbers::Place;
 use crate::wanted::{Sought, Wanted};
 use lf_codec::{Header, encode, fits_trace};
@@ -23,6 +24,8 @@ pub(crate) struct Candidate {
     pub records: Vec<Record>,
     /// Where each record stands in the trace that was read.
     pub places: Vec<Place>,
+    /// So many of the records may be given what the rules expect of them.
+    pub mends: u32,
 }
 
 /// A trace that has the fault that is wanted.
@@ -69,45 +72,18 @@ fn fault_of(
     if sought.alone && !is_alone(&conclusion) {
         return Ok(None);
     }
-    Ok(RuleFault::of_conclusion(
-        sought.first,
-        &conclusion.outcome,
-        &conclusion.broken,
-    ))
+    Ok(RuleFault::of_conclusion(sought.first, &conclusion.outcome, &conclusion.broken))
 }
 
 /// Whether what broke first is what the outcome names.
 pub(crate) fn is_alone(conclusion: &Conclusion) -> bool {
     let Conclusion {
-        outcome, broken, ..
+        outcome,
+        broken,
+        ..
     } = conclusion;
     RuleFault::of_conclusion(true, outcome, broken)
         == RuleFault::of_conclusion(false, outcome, broken)
-}
-
-/// The fault of these bytes, which are the trace of this memory and these records, where it is the one that is wanted.
-fn wanted_fault(
-    alloc: Global,
-    shape: &Shape,
-    wanted: &Wanted,
-    memory: &Memory,
-    records: &[Record],
-    bytes: &[u8],
-) -> Result<Option<RuleFault>, NoMemory>
-    requires shape { IsShape shape.now }
-    requires trace { (header : Header) × IsTrace bytes.now header memory.now.items records.now }
-    ensures has { IfOk result (λ found. IfSome found (HasFault wanted.now.sought.first shape.now bytes.now)) }
-    ensures wanted { IfOk result (λ found. IfSome found (λ fault.
-        IsWanted shape.now memory.now.items records.now fault wanted.now)) }
-{
-    let Some(fault) = fault_of(alloc, shape, wanted.sought, bytes)? else {
-        return Ok(None);
-    };
-    if wanted.is_met(alloc, shape, memory, records, fault)? {
-        Ok(Some(fault))
-    } else {
-        Ok(None)
-    }
 }
 
 /// The candidate, where it is smaller than the smallest trace so far and has the fault that is wanted.
@@ -125,8 +101,9 @@ pub(crate) fn kept_if(
 {
     let Candidate {
         memory,
-        records,
+        mut records,
         places,
+        mends,
     } = candidate;
     let Ok(memory_count) = u32::try_from(memory.len()) else {
         return Ok(None);
@@ -135,21 +112,29 @@ pub(crate) fn kept_if(
         memory_count,
         ..*header
     };
-    if records.len() > best.records.len() || !fits_trace(&header, &memory, &records) {
-        return Ok(None);
+    for mended in 0..=mends {
+        if records.len() > best.records.len() || !fits_trace(&header, &memory, &records) {
+            return Ok(None);
+        }
+        let bytes = encode(alloc, &header, &memory, &records)?;
+        if bytes.len() >= best.bytes.len() {
+            return Ok(None);
+        }
+        let Some(fault) = fault_of(alloc, shape, wanted.sought, &bytes)? else {
+            return Ok(None);
+        };
+        if wanted.is_met(alloc, shape, &memory, &records, fault)? {
+            return Ok(Some(Kept {
+                memory,
+                records,
+                places,
+                bytes,
+                fault,
+            }));
+        }
+        if mended == mends || !mend(alloc, shape, wanted, &memory, &mut records, fault)? {
+            return Ok(None);
+        }
     }
-    let bytes = encode(alloc, &header, &memory, &records)?;
-    if bytes.len() >= best.bytes.len() {
-        return Ok(None);
-    }
-    match wanted_fault(alloc, shape, wanted, &memory, &records, &bytes)? {
-        Some(fault) => Ok(Some(Kept {
-            memory,
-            records,
-            places,
-            bytes,
-            fault,
-        })),
-        None => Ok(None),
-    }
+    Ok(None)
 }

@@ -33,85 +33,107 @@ pub(crate) fn touched(
     Ok(memory)
 }
 
-/// The place of the first fill of each second-level block into level two, among the records that stay.
-fn first_fills(
-    alloc: Global,
-    records: &[Record],
-    order: &[usize],
-    stays: &[bool],
-) -> Result<BTreeMap<u32, usize>, NoMemory> {
-    let mut first = BTreeMap::new(alloc);
-    for place in order {
-        let Some(item) = records.get(*place) else {
-            continue;
-        };
-        match &item.event {
-            Event::Fill2 { block, .. } if stays.get(*place) == Some(&true) && first.get(block).is_none() => {
-                let _ = first.insert(*block, *place)?;
-            }
-            _ => {}
-        }
-    }
-    Ok(first)
+/// Whether the memory of a candidate has what the first fills of its blocks have to carry, or the last ones.
+#[derive(Clone, Copy, PartialEq, Eq)]
+pub(crate) enum Fills {
+    First,
+    Last,
 }
 
-/// Sets the blocks of a second-level block to these bytes, one block after another.
-fn put(
+/// The bytes that a fill has to carry: those that the rule expects of it, where it is the record that breaks one.
+fn filled<'a>(wanted: &'a Wanted, item: &'a Record, bytes: &'a [u8]) -> &'a [u8] {
+    match (&wanted.item, &wanted.due) {
+        (Some(broken), Some(due)) if is_same_event(&broken.event, &item.event) => due,
+        _ => bytes,
+    }
+}
+
+/// Notes these bytes, those of one block after another, from this block on.
+fn note(
     shape: &Shape,
-    memory: &mut BTreeMap<u32, Block>,
-    second: u32,
+    fills: Fills,
+    found: &mut BTreeMap<u32, Block>,
+    first: u32,
     bytes: &[u8],
 ) -> Result<(), NoMemory> {
-    let mut block = second.saturating_mul(shape.factor);
+    let mut block = first;
     for part in bytes.chunks((shape.block as usize).max(1)) {
-        let mut held: Block = ArrayVec::new();
-        for byte in part {
-            let _ = held.try_push(*byte);
+        if fills == Fills::Last || found.get(&block).is_none() {
+            let mut held: Block = ArrayVec::new();
+            for byte in part {
+                let _ = held.try_push(*byte);
+            }
+            let _ = found.insert(block, held)?;
         }
-        let _ = memory.insert(block, held)?;
         block = block.saturating_add(1);
     }
     Ok(())
 }
 
-/// The bytes that this fill has to carry: those that the rule expects of it, where it is the record that breaks one.
-fn filled<'a>(wanted: &'a Wanted, item: &'a Record) -> Option<&'a [u8]> {
-    let Event::Fill2 { bytes, .. } = &item.event else {
-        return None;
-    };
-    match (&wanted.item, &wanted.due) {
-        (Some(broken), Some(due)) if is_same_event(&broken.event, &item.event) => Some(due),
-        _ => Some(bytes),
+/// What the fills of the records that stay have to carry, by their blocks.
+fn contents(
+    alloc: Global,
+    shape: &Shape,
+    wanted: &Wanted,
+    fills: Fills,
+    records: &[Record],
+    order: &[usize],
+    stays: &[bool],
+) -> Result<BTreeMap<u32, Block>, NoMemory> {
+    let mut found = BTreeMap::new(alloc);
+    for place in order {
+        let Some(item) = records.get(*place) else {
+            continue;
+        };
+        if stays.get(*place) != Some(&true) {
+            continue;
+        }
+        match &item.event {
+            Event::Fill1 { block, bytes } => {
+                note(
+                    shape,
+                    fills,
+                    &mut found,
+                    *block,
+                    filled(wanted, item, bytes),
+                )?;
+            }
+            Event::Fill2 { block, bytes } => {
+                let first = block.saturating_mul(shape.factor);
+                note(shape, fills, &mut found, first, filled(wanted, item, bytes))?;
+            }
+            _ => {}
+        }
     }
+    Ok(found)
 }
 
-/// The memory for the records that stay. Where the first fill of a second-level block is left out, the memory has what
-/// the first one has to carry that stays: what was written before is left out too.
+/// The memory for the records that stay. Where the first fill of a block is left out, the memory has what the first one
+/// has to carry that stays: what was written before is left out too. It may have what the last ones have to carry.
 pub(crate) fn patched(
     alloc: Global,
     shape: &Shape,
     wanted: &Wanted,
+    fills: Fills,
     best: &Kept,
     order: &[usize],
     stays: &[bool],
 ) -> Result<Memory, NoMemory> {
     let records = best.records.as_slice();
     let all = vec![in alloc; true; records.len()]?;
-    let before = first_fills(alloc, records, order, &all)?;
-    let after = first_fills(alloc, records, order, stays)?;
+    let before = contents(alloc, shape, wanted, Fills::First, records, order, &all)?;
+    let after = contents(alloc, shape, wanted, fills, records, order, stays)?;
     let mut blocks = BTreeMap::new(alloc);
     for (block, bytes) in &best.memory {
         let _ = blocks.insert(*block, bytes.clone()?)?;
     }
-    for (second, place) in &after {
-        if before.get(second) == Some(place) {
-            continue;
-        }
-        let Some(item) = records.get(*place) else {
-            continue;
+    for (block, bytes) in &after {
+        let is_as_before = match before.get(block) {
+            Some(first) => first.as_slice() == bytes.as_slice(),
+            None => false,
         };
-        if let Some(bytes) = filled(wanted, item) {
-            put(shape, &mut blocks, *second, bytes)?;
+        if !is_as_before {
+            let _ = blocks.insert(*block, bytes.clone()?)?;
         }
     }
     let mut memory = Vec::new(alloc);

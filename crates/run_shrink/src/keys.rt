@@ -103,9 +103,9 @@ impl Parts {
             last: last_needed(best.fault, records),
         };
         if let Some(broken) = broken_place(best.fault, records) {
-            parts.pin(records, broken);
+            parts.pin(best, broken);
             parts.pin_history(best, order, broken, count);
-            parts.pin_answered(records, broken);
+            parts.pin_answered(best, broken);
         }
         Ok(parts)
     }
@@ -114,13 +114,14 @@ impl Parts {
         self.links.get(place)
     }
 
-    /// The record at this place stays, with those of its request but its stalls.
-    fn pin(&mut self, records: &[Record], place: usize) {
+    /// The record at this place stays, with those of its request that lead to it.
+    fn pin(&mut self, best: &Kept, place: usize) {
         let owner = self.links.get(place).and_then(|link| link.owner);
-        for (at, item) in records.iter().enumerate() {
+        for (at, item) in best.records.iter().enumerate() {
             let is_of_request = owner.is_some()
                 && self.links.get(at).and_then(|link| link.owner) == owner
-                && !matches!(item.event, Event::Stall { .. } | Event::SecondStall { .. });
+                && leads_on(&item.event)
+                && !is_later(best.fault, item);
             if let Some(stays) = self.stays.get_mut(at) {
                 *stays = *stays || at == place || is_of_request;
             }
@@ -140,14 +141,15 @@ impl Parts {
             };
             let is_of_block = self.link(*place).and_then(|link| link.second) == second;
             if left > 0 && item.bank == bank && item.number < number && is_of_block {
-                self.pin(&best.records, *place);
+                self.pin(best, *place);
                 left -= 1;
             }
         }
     }
 
     /// Where the record is a reply that breaks a port's rule, the last request with its tag and its reply stay.
-    fn pin_answered(&mut self, records: &[Record], broken: usize) {
+    fn pin_answered(&mut self, best: &Kept, broken: usize) {
+        let records = best.records.as_slice();
         let Some(item) = records.get(broken) else {
             return;
         };
@@ -157,14 +159,15 @@ impl Parts {
         let mut issue = None;
         for (place, other) in records.iter().enumerate() {
             match &other.event {
-                Event::Issue { tag, .. } if other.log == item.log && tag == replied && place < broken => {
+                Event::Issue { tag, .. }
+                    if other.log == item.log && tag == replied && place < broken => {
                     issue = Some(place);
                 }
                 _ => {}
             }
         }
         if let Some(issue) = issue {
-            self.pin(records, issue);
+            self.pin(best, issue);
         }
     }
 
@@ -188,7 +191,15 @@ impl Parts {
         Ok(keys)
     }
 
-    fn key(&self, stage: Stage, fault: RuleFault, records: &[Record], place: usize, item: &Record, link: &Link) -> Option<u64> {
+    fn key(
+        &self,
+        stage: Stage,
+        fault: RuleFault,
+        records: &[Record],
+        place: usize,
+        item: &Record,
+        link: &Link,
+    ) -> Option<u64> {
         match stage {
             Stage::Behind => {
                 if place > self.last || is_later(fault, item) {
@@ -207,7 +218,9 @@ impl Parts {
                     None
                 }
             }
-            Stage::Pasts => link.second.map(|second| second << 32 | u64::from(link.past)),
+            Stage::Pasts => link
+                .second
+                .map(|second| second << 32 | u64::from(link.past)),
             Stage::Memory => None,
             Stage::Refills => as_key(link.refill),
             Stage::Requests => as_key(link.owner),
@@ -219,6 +232,17 @@ impl Parts {
 
 fn as_key(place: Option<usize>) -> Option<u64> {
     place.map(|place| place as u64)
+}
+
+/// Whether something comes of the event: a stall changes nothing, and an eviction ends what the request led to.
+fn leads_on(event: &Event) -> bool {
+    !matches!(
+        event,
+        Event::Stall { .. }
+            | Event::SecondStall { .. }
+            | Event::Evict1 { .. }
+            | Event::Evict2 { .. }
+    )
 }
 
 /// Whether the bank's record stands behind the one that breaks the rule, in the order of their numbers.

@@ -9,6 +9,7 @@ mod broken;
 mod candidate;
 mod contents;
 mod keys;
+mod mend;
 mod numbers;
 mod plan;
 mod requests;

@@ -27,7 +27,11 @@ pub(crate) fn places_of(alloc: Global, records: &[Record]) -> Result<Vec<Place>,
 }
 
 /// Those that stay.
-pub(crate) fn staying(alloc: Global, places: &[Place], stays: &[bool]) -> Result<Vec<Place>, NoMemory> {
+pub(crate) fn staying(
+    alloc: Global,
+    places: &[Place],
+    stays: &[bool],
+) -> Result<Vec<Place>, NoMemory> {
     let mut kept = Vec::new(alloc);
     for (at, place) in places.iter().enumerate() {
         if stays.get(at) == Some(&true) {

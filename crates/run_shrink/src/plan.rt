@@ -1,7 +1,7 @@
 //! Which trace is tried next.
 
 use crate::candidate::{Candidate, Kept};
-use crate::contents::{patched, touched};
+use crate::contents::{Fills, patched, touched};
 use crate::keys::{Parts, STAGES, Stage};
 use crate::numbers::{bank_order, copies, renumbered, staying};
 use crate::wanted::Wanted;
@@ -15,6 +15,13 @@ const SHOWN: usize = 8;
 /// A trace of fewer events than this is short enough to be read, so what shows why the rule is broken stays.
 const SHORT: usize = 30;
 
+/// A trace of so many events is long. Its records are given what the rules expect before fewer of those stay that show
+/// why the rule is broken.
+const LONG: usize = 100;
+
+/// So many records of a trace that is long yet may be given what the rules expect of them.
+const MENDS: u32 = 64;
+
 /// Leaves parts of the smallest trace out: all of them, a half, then quarters, down to single ones, stage by stage, and
 /// again from the first stage until nothing more is kept. Where the trace is not short by then, half as many records
 /// that show why the rule is broken stay, and so on until none does.
@@ -26,6 +33,8 @@ pub(crate) struct Plan<'a> {
     stage: Stage,
     /// How many records that show why the rule is broken stay.
     shown: usize,
+    /// What the memory of a candidate has.
+    fills: Fills,
     /// The places of the smallest trace's records, by bank and number.
     order: Vec<usize>,
     /// The key of the part that each of its records belongs to.
@@ -66,6 +75,7 @@ impl<'a> Plan<'a> {
             wanted,
             stage: Stage::Behind,
             shown: SHOWN,
+            fills: Fills::First,
             order: Vec::new(alloc),
             keys: Vec::new(alloc),
             parts: Vec::new(alloc),
@@ -120,8 +130,13 @@ impl<'a> Plan<'a> {
         match self.stage.next() {
             Some(stage) => self.stage = stage,
             None if self.was_kept => self.start_again(),
-            None if self.shown > 0 && best.records.len() >= SHORT => {
+            None if best.records.len() < SHORT => return Ok(false),
+            None if self.shown > 0 && (best.records.len() < LONG || self.fills == Fills::Last) => {
                 self.shown /= 2;
+                self.start_again();
+            }
+            None if self.fills == Fills::First => {
+                self.fills = Fills::Last;
                 self.start_again();
             }
             None => return Ok(false),
@@ -156,14 +171,32 @@ impl<'a> Plan<'a> {
                 memory: touched(self.alloc, self.shape, &best.memory, records)?,
                 records: copies(self.alloc, records)?,
                 places: best.places.clone()?,
+                mends: 0,
             });
         }
         let stays = self.stays()?;
         Ok(Candidate {
-            memory: patched(self.alloc, self.shape, self.wanted, best, &self.order, &stays)?,
+            memory: patched(
+                self.alloc,
+                self.shape,
+                self.wanted,
+                self.fills,
+                best,
+                &self.order,
+                &stays,
+            )?,
             records: renumbered(self.alloc, records, &self.order, &stays)?,
             places: staying(self.alloc, &best.places, &stays)?,
+            mends: self.mends(),
         })
+    }
+
+    /// So many records of a candidate may be given what the rules expect of them.
+    fn mends(&self) -> u32 {
+        match self.fills {
+            Fills::First => 0,
+            Fills::Last => MENDS,
+        }
     }
 
     /// Whether each record stays.

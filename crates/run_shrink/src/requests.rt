@@ -35,7 +35,10 @@ pub(crate) fn place_of(port: u8, tag: u8) -> usize {
 
 /// Whether the issue at this place is that of a load.
 fn is_load(records: &[Record], place: Option<usize>) -> bool {
-    match place.and_then(|place| records.get(place)).map(|item| &item.event) {
+    match place
+        .and_then(|place| records.get(place))
+        .map(|item| &item.event)
+    {
         Some(Event::Issue { op, .. }) => *op == Op::Load,
         _ => false,
     }
@@ -258,7 +261,9 @@ impl Links {
         };
         let owner = self.requests.owner(shape, records, place)?;
         let second = second_touched(shape, records, owner, item);
-        let past = second.and_then(|second| self.pasts.get(&second).copied()).unwrap_or(0);
+        let past = second
+            .and_then(|second| self.pasts.get(&second).copied())
+            .unwrap_or(0);
         if let Some(link) = self.links.get_mut(place) {
             *link = Link {
                 owner,
@@ -284,7 +289,9 @@ impl Links {
                 let _ = self.gone.insert(*block, place)?;
             }
             Event::Evict2 { block, .. } => {
-                let _ = self.pasts.insert(u64::from(*block), past.saturating_add(1))?;
+                let _ = self
+                    .pasts
+                    .insert(u64::from(*block), past.saturating_add(1))?;
             }
             _ => {}
         }

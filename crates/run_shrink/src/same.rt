@@ -43,11 +43,7 @@ fn is_same_of_port(event: &Event, other: &Event) -> bool
                 bytes: b,
             },
         ) => {
-            is_same_op(*op, *o)
-                && tag == t
-                && size == s
-                && address == a
-                && are_same_bytes(bytes, b)
+            is_same_op(*op, *o) && tag == t && size == s && address == a && are_same_bytes(bytes, b)
         }
         (
             Event::Reply { tag, size, bytes },
@@ -68,11 +64,41 @@ fn is_same_of_level_one(event: &Event, other: &Event) -> bool
 {
     match (event, other) {
         (Event::Hit { port, tag }, Event::Hit { port: p, tag: t }) => port == p && tag == t,
-        (Event::Primary { port, tag, register }, Event::Primary { port: p, tag: t, register: r }) => port == p && tag == t && register == r,
-        (Event::Merge { port, tag, register }, Event::Merge { port: p, tag: t, register: r }) => port == p && tag == t && register == r,
+        (
+            Event::Primary {
+                port,
+                tag,
+                register,
+            },
+            Event::Primary {
+                port: p,
+                tag: t,
+                register: r,
+            },
+        ) => port == p && tag == t && register == r,
+        (
+            Event::Merge {
+                port,
+                tag,
+                register,
+            },
+            Event::Merge {
+                port: p,
+                tag: t,
+                register: r,
+            },
+        ) => port == p && tag == t && register == r,
         (Event::Stall { port, tag }, Event::Stall { port: p, tag: t }) => port == p && tag == t,
-        (Event::Fill1 { block, bytes }, Event::Fill1 { block: x, bytes: b }) => block == x && are_same_bytes(bytes, b),
-        (Event::Evict1 { block, mask, bytes }, Event::Evict1 { block: x, mask: m, bytes: b }) => block == x && mask.0 == m.0 && are_same_bytes(bytes, b),
+        (Event::Fill1 { block, bytes }, Event::Fill1 { block: x, bytes: b }) => block == x
+            && are_same_bytes(bytes, b),
+        (
+            Event::Evict1 { block, mask, bytes },
+            Event::Evict1 {
+                block: x,
+                mask: m,
+                bytes: b,
+            },
+        ) => block == x && mask.0 == m.0 && are_same_bytes(bytes, b),
         _ => false,
     }
 }
@@ -83,11 +109,35 @@ fn is_same_of_level_two(event: &Event, other: &Event) -> bool
 {
     match (event, other) {
         (Event::SecondHit { block }, Event::SecondHit { block: x }) => block == x,
-        (Event::SecondPrimary { block, register }, Event::SecondPrimary { block: x, register: r }) => block == x && register == r,
-        (Event::SecondMerge { block, register }, Event::SecondMerge { block: x, register: r }) => block == x && register == r,
+        (
+            Event::SecondPrimary { block, register },
+            Event::SecondPrimary {
+                block: x,
+                register: r,
+            },
+        ) => block == x && register == r,
+        (
+            Event::SecondMerge { block, register },
+            Event::SecondMerge {
+                block: x,
+                register: r,
+            },
+        ) => block == x && register == r,
         (Event::SecondStall { block }, Event::SecondStall { block: x }) => block == x,
-        (Event::Fill2 { block, bytes }, Event::Fill2 { block: x, bytes: b }) => block == x && are_same_bytes(bytes, b),
-        (Event::Evict2 { block, masks, bytes }, Event::Evict2 { block: x, masks: m, bytes: b }) => block == x && are_same_masks(masks, m) && are_same_bytes(bytes, b),
+        (Event::Fill2 { block, bytes }, Event::Fill2 { block: x, bytes: b }) => block == x
+            && are_same_bytes(bytes, b),
+        (
+            Event::Evict2 {
+                block,
+                masks,
+                bytes,
+            },
+            Event::Evict2 {
+                block: x,
+                masks: m,
+                bytes: b,
+            },
+        ) => block == x && are_same_masks(masks, m) && are_same_bytes(bytes, b),
         _ => false,
     }
 }

@@ -33,7 +33,10 @@ impl fmt::Display for Shrunk {
         let before = self.before;
         let (events, left, checks) = (self.events, self.left, self.checks);
         writeln!(f, "no {fault}")?;
-        write!(f, "shrunk events={events} to={left} checks={checks} was {before}")
+        write!(
+            f,
+            "shrunk events={events} to={left} checks={checks} was {before}"
+        )
     }
 }
 

@@ -1,10 +1,14 @@
 //! What each trace that is kept has in common.
 
-ghost use Rattle.std.specs.Prelude.{◌≡◌, ◌<◌, ◌↔◌, IsTrue, true, IfOk};
+ghost use Rattle.std.specs.Prelude.{◌≡◌, ◌+◌, ◌<◌, ◌↔◌, IsTrue, true, IfOk};
 ghost use Rattle.std.specs.Option.{option_map};
 ghost use Rattle.std.specs.List.{AllByRecursion};
 ghost use Rattle.lf_rules.specs.Fits.{Fits};
+ghost use Rattle.lf_rules.specs.Address.{flat_memory};
 ghost use Rattle.lf_rules.specs.InRange.{IsShape};
+ghost use Rattle.bank_state.specs.Bytes.{bank_part};
+ghost use Rattle.explain_history.specs.BankOrder.{in_order};
+ghost use Rattle.explain_replay.specs.Broken.{IsFirstBroken};
 ghost use Rattle.run_shrink.specs.Wanted.{IsSame, AreSame, is_of_bytes, bytes_due, AreDue, AreDueIf, items_of};
 ghost use Rattle.run_shrink.specs.Wanted.{IsWanted, HasBank};
 
@@ -43,6 +47,26 @@ fn is_of_bytes(rule: Rule) -> bool
     matches!(rule, Rule::ReplyData | Rule::FillData | Rule::EvictData)
 }
 
+/// What the bank's rule expects of its record with this number.
+pub(crate) fn broken_in_bank(
+    alloc: Global,
+    shape: &Shape,
+    memory: &Memory,
+    records: &[Record],
+    bank: u8,
+    number: u32,
+) -> Result<Option<Broken>, NoMemory>
+    requires shape { IsShape shape.now }
+    requires bank { bank < shape.now.banks }
+    requires fit { AllByRecursion (Fits shape.now) records.now }
+    ensures { IfOk result (λ broken. IsFirstBroken shape.now
+        (bank_part shape.now bank (flat_memory memory.now.items)) (in_order bank records.now (number + 1)) broken) }
+{
+    let packed = packed(alloc, records)?;
+    let places = places_in_order(alloc, &packed, bank, number as usize + 1)?;
+    Ok(first_broken(alloc, shape, memory, u32::from(bank), &packed, &places)?)
+}
+
 /// The bytes that are expected of the record that breaks a rule.
 fn bytes_due(broken: Option<Broken>) -> Option<Vec<u8>>
     ensures { items_of result ≡ bytes_due broken }
@@ -68,9 +92,7 @@ fn due_in_bank(
     requires fit { AllByRecursion (Fits shape.now) records.now }
     ensures { IfOk result (λ due. AreDueIf true shape.now memory.now.items records.now bank number (items_of due)) }
 {
-    let packed = packed(alloc, records)?;
-    let places = places_in_order(alloc, &packed, bank, number as usize + 1)?;
-    let broken = first_broken(alloc, shape, memory, u32::from(bank), &packed, &places)?;
+    let broken = broken_in_bank(alloc, shape, memory, records, bank, number)?;
     Ok(bytes_due(broken))
 }
 

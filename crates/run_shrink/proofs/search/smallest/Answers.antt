@@ -19,19 +19,18 @@ loop-checks-preserved g c =
       told = (
         (checks + 1, c.len.result) ∷ told.0,
         told_once_more g.O.Observer.tells c.args.observer.now c.loop-checks.observer c.judged.new.self told.0
-        (checks + 1) told.1 c.len.result c.judged.ensures,
+            (checks + 1) told.1 c.len.result c.judged.ensures,
         tell_of_one_more (length c.args.first.records.items) told.0 checks (length c.loop-checks.best.records.items)
-        c.len.result left told.2 same tried.fewer,
+            c.len.result left told.2 same tried.fewer,
       );
     }
 
 pub returns-in_err-note-clause-told : goal.returns-in_err-note-clause-told
 returns-in_err-note-clause-told g c =
     let told = c.loop-checks.invariant.told in
-    let checks = c.loop-checks.checks in
-    (
+    let checks = c.loop-checks.checks in (
       (checks + 1, c.len.result) ∷ told.0,
       told_once_more g.O.Observer.tells c.args.observer.now c.loop-checks.observer c.judged.new.self told.0
-      (checks + 1) told.1 c.len.result c.judged.ensures,
+          (checks + 1) told.1 c.len.result c.judged.ensures,
       search rules,
     )
