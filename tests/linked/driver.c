@@ -68,9 +68,8 @@ static bool is_same(const told *a, const told *b) {
 static bool feed(wudzark_board *board, told *t, const char *piece, size_t length) {
     wudzark_status status = wudzark_feed(board, piece, length);
     t->after += length;
-    if (status != WUDZARK_FINE) return false;
     t->broke = wudzark_broken(board, t->broke_line, ROOM);
-    return t->broke.status == WUDZARK_FINE;
+    return status == WUDZARK_FINE && t->broke.status == WUDZARK_FINE;
 }
 
 static void finish(wudzark_board *board, told *t) {
