@@ -43,3 +43,17 @@ fn value_of_a_wrong_reply(rt: HostRuntime) -> Result<(), Fail> {
     assert_eq!(rt; bytes.as_slice(), [0; 8].as_slice());
     Ok(())
 }
+
+/// Of two requests with one tag the head of the queue has the block that is told.
+#[test]
+fn block_of_the_head(rt: HostRuntime) -> Result<(), Fail> {
+    let Some(told) = told(rt.alloc(), &C1, &["L 0 8@0, L 0 8@8, M 0 0"])? else {
+        return Err(Fail::from("nothing is told"));
+    };
+    assert_eq!(rt; (told.number, told.rule), (2, Rule::NotInFlight));
+    let Some(named) = told.blocks.first() else {
+        return Err(Fail::from("no block is told"));
+    };
+    assert_eq!(rt; named.block, 0);
+    Ok(())
+}

@@ -80,12 +80,16 @@ fn free_json(free: Option<u32>) -> Value {
     }
 }
 
-/// The register that holds the block and its targets, and null where they are not told.
+/// A register with the block that it holds and its targets, and null where none is told.
 fn taken_json(alloc: Global, taken: Option<Taken>) -> Result<Value, NoMemory> {
     match taken {
-        Some(Taken { register, targets }) => {
-            Ok(json!(in alloc; {"register": register, "targets": targets})?)
-        }
+        Some(
+            Taken {
+                register,
+                block,
+                targets,
+            },
+        ) => Ok(json!(in alloc; {"register": register, "block": block, "targets": targets})?),
         None => Ok(Value::Null),
     }
 }

@@ -1,7 +1,7 @@
 -- One part more, and the first record for which a test holds.
 use Rattle.std.proofs.Common.{◌≡◌, ℕ, ◌+◌, ◌<◌, Bool, true, false, List, [], ◌∷◌, ◌++◌, map, length, get_or, drop}
 use Rattle.std.proofs.Common.{Option}
-use Rattle.std.proofs.Common.{Some, None, refl, sym, ap, ◌∙◌, subst, suc, add-one, if◌then◌else◌}
+use Rattle.std.proofs.Common.{Some, sym, ap, ◌∙◌, subst, suc, add-one, if◌then◌else◌}
 use mathlib.Core.Path.{ap₂}
 use Rattle.std.specs.List.{AllByRecursion}
 use Rattle.std.proofs.lemmas.List.{map-append, drop_more}

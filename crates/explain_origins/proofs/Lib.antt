@@ -1,7 +1,6 @@
 mod BeforeLast
 mod Steps
+mod AsTheRules
 mod ToCome
-mod LastStoreLemmas
 mod FurtherLemmas
 mod FreedLemmas
-mod AcceptedLemmas

@@ -1,7 +1,7 @@
 -- Further records that tell where a fault comes from.
-use Rattle.std.specs.Prelude.{◌≡◌, ℕ, suc, ◌-◌, Bool, ◌&&◌, ◌==◌, nat_le, nat_lt, List, [], ◌∷◌, map, filter, Option}
-use Rattle.std.specs.Prelude.{Some, None, slice_get, option_to_list, if◌then◌else◌}
-use Rattle.std.specs.List.{AllByRecursion}
+use Rattle.std.specs.Prelude.{◌≡◌, ℕ, suc, ◌-◌, Bool, not, ◌&&◌, ◌==◌, nat_le, nat_lt, List, [], ◌∷◌, map, filter}
+use Rattle.std.specs.Prelude.{Option, Some, None, slice_get, if◌then◌else◌}
+use Rattle.std.specs.List.{AllByRecursion, list_any}
 use Rattle.lf_rules.specs.declared.event.Event.{Event}
 use Rattle.lf_rules.specs.declared.event.Event.TheVariants as events
 use Rattle.lf_rules.specs.declared.event.Record.{Record}
@@ -10,24 +10,16 @@ use Rattle.lf_rules.specs.declared.rule.Rule.TheVariants as rules
 use Rattle.lf_rules.specs.declared.shape.Shape.{Shape}
 use Rattle.lf_rules.specs.Address.{block_of, offset_of, second_of}
 use Rattle.explain_history.specs.Touching.{record_at}
-use Rattle.explain_origins.specs.declared.accepted.Origin.{Origin}
+use Rattle.explain_origins.specs.declared.standing.Origin.{Origin}
 use Rattle.explain_origins.specs.declared.origins.Origins.{Origins}
 use Rattle.explain_origins.specs.declared.parts.StatePart.{StatePart}
 use Rattle.explain_origins.specs.declared.parts.StatePart.TheVariants as parts
-use Rattle.explain_origins.specs.Accepted.{origin_at}
 use Rattle.explain_origins.specs.Events.{is_key, issued_tag}
 use Rattle.explain_origins.specs.Freed.{last_end}
-use Rattle.explain_origins.specs.Origins.{steps, standing}
+use Rattle.explain_origins.specs.Origins.{Step, steps, standing}
+use Rattle.explain_origins.specs.Requests.{none_waits, origin_of}
 
 -- ---- the parts that are told of a rule
-
--- what is in the register that a miss names
-abbrev pub named_register_part : Event → List StatePart
-named_register_part (events.Primary port tag register) = parts.Register1 register ∷ []
-named_register_part (events.Merge port tag register) = parts.Register1 register ∷ []
-named_register_part (events.SecondPrimary block register) = parts.Register2 register ∷ []
-named_register_part (events.SecondMerge block register) = parts.Register2 register ∷ []
-named_register_part _ = []
 
 -- the targets of the block of a stall, which is at this address where level one stalls
 abbrev pub stalled_targets : Shape → Option ℕ → Event → List StatePart
@@ -69,8 +61,6 @@ replied_request shape address value log _ = []
 -- the parts that are told beside the one that the rule is about, where this register is free, the fault is at this
 -- address and the record has this byte there
 abbrev pub further_parts : Shape → Rule → Option ℕ → Option ℕ → Option ℕ → Record → List StatePart
-further_parts shape rules.RegisterBusy free address value r = named_register_part r.event
-further_parts shape rules.MergeFull free address value r = named_register_part r.event
 further_parts shape rules.NeedlessStall free address value r = needless shape free address r.event
 further_parts shape rules.NotHead free address value r = named_request r.bank r.number r.event
 further_parts shape rules.ReplyData free address value r = replied_request shape address value r.log r.event
@@ -93,23 +83,35 @@ is_later_request port tag bank number r =
 abbrev pub later_request : List Record → ℕ → ℕ → ℕ → ℕ → Option ℕ
 later_request rs port tag bank number = first_from (is_later_request port tag bank number) 0 rs
 
--- these, and where there are none this one
-abbrev pub or_later : List ℕ → Option ℕ → List ℕ
-or_later [] later = option_to_list later
-or_later (place ∷ places) later = place ∷ places
+-- these, and where there are none the request at this place
+abbrev pub or_later : List Origin → Option ℕ → List Origin
+or_later [] None = []
+or_later [] (Some place) = origin_of place None ∷ []
+or_later (origin ∷ all) later = origin ∷ all
+
+-- is the record one of these?
+abbrev pub is_among : List Origin → Origin → Bool
+is_among all origin = list_any (λ one. one.place == origin.place) all
+
+-- Of the blocks that level two looked up, and that level one has not got, those that it supplied: none of its registers
+-- holds them.
+abbrev pub supplied : Shape → List Step → List Origin
+supplied shape all =
+    filter (λ origin. not (is_among (standing shape parts.Held2 all) origin)) (standing shape parts.Supplied all)
 
 -- the records of a part, of those at the places before. The request that is named may come later.
-abbrev pub places_in : Shape → List Record → List (Option ℕ) → StatePart → List ℕ
-places_in shape rs before (parts.Freed1 register) =
-    last_end shape (parts.Freed1 register) [] [] (steps shape [] rs before)
-places_in shape rs before (parts.Freed2 register) =
-    last_end shape (parts.Freed2 register) [] [] (steps shape [] rs before)
-places_in shape rs before (parts.Served bank) =
-    last_end shape (parts.Served bank) [] [] (steps shape [] rs before)
-places_in shape rs before (parts.NamedRequest port tag bank number) =
-    or_later (standing shape (parts.NamedRequest port tag bank number) (steps shape [] rs before))
+abbrev pub all_in : Shape → List Record → List (Option ℕ) → StatePart → List Origin
+all_in shape rs before (parts.Freed1 register) =
+    last_end shape (parts.Freed1 register) [] [] (steps shape none_waits rs before)
+all_in shape rs before (parts.Freed2 register) =
+    last_end shape (parts.Freed2 register) [] [] (steps shape none_waits rs before)
+all_in shape rs before (parts.Served bank) =
+    last_end shape (parts.Served bank) [] [] (steps shape none_waits rs before)
+all_in shape rs before (parts.NamedRequest port tag bank number) =
+    or_later (standing shape (parts.NamedRequest port tag bank number) (steps shape none_waits rs before))
     (later_request rs port tag bank number)
-places_in shape rs before part = standing shape part (steps shape [] rs before)
+all_in shape rs before parts.Supplied = supplied shape (steps shape none_waits rs before)
+all_in shape rs before part = standing shape part (steps shape none_waits rs before)
 
 -- the byte that a request writes at an address
 abbrev pub byte_of : ℕ → Event → Option ℕ
@@ -132,7 +134,7 @@ told_of rs part all = all
 
 -- the records of a part, each with its request
 abbrev pub records_in : Shape → List Record → List (Option ℕ) → StatePart → List Origin
-records_in shape rs before part = told_of rs part (map (origin_at rs before) (places_in shape rs before part))
+records_in shape rs before part = told_of rs part (all_in shape rs before part)
 
 -- They are of these parts, each with its records.
 pub record AreOf (shape : Shape) (rs : List Record) (before : List (Option ℕ)) (all : List StatePart)

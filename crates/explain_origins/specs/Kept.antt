@@ -1,10 +1,11 @@
 -- What is kept while records come, of a part of the state.
 use Rattle.std.specs.Prelude.{ℕ, not, ◌==◌, List, [], ◌∷◌, ◌++◌, map, filter, Option, Some, None}
 use Rattle.explain_origins.specs.declared.standing.Begun.{Begun}
+use Rattle.explain_origins.specs.declared.standing.Origin.{Origin}
 
--- the places of the records that began these
-abbrev pub places_of : List Begun → List ℕ
-places_of begun = map (λ one. one.place) begun
+-- the records that began these
+abbrev pub begun_by : List Begun → List Origin
+begun_by begun = map (λ one. one.origin) begun
 
 -- those with another key
 abbrev pub without : ℕ → List Begun → List Begun
@@ -14,10 +15,10 @@ abbrev pub without_ended : Option ℕ → List Begun → List Begun
 without_ended None begun = begun
 without_ended (Some key) begun = without key begun
 
-abbrev pub with_begun : ℕ → Option ℕ → List Begun → List Begun
-with_begun place None begun = begun
-with_begun place (Some key) begun = begun ++ record { place = place; key = key } ∷ []
+abbrev pub with_begun : Origin → Option ℕ → List Begun → List Begun
+with_begun origin None begun = begun
+with_begun origin (Some key) begun = begun ++ record { origin = origin; key = key } ∷ []
 
--- after a record at this place that begins and ends this
-abbrev pub kept_after : ℕ → Option ℕ → Option ℕ → List Begun → List Begun
-kept_after place begins ends begun = with_begun place begins (without_ended ends begun)
+-- after this record, which begins and ends this
+abbrev pub kept_after : Origin → Option ℕ → Option ℕ → List Begun → List Begun
+kept_after origin begins ends begun = with_begun origin begins (without_ended ends begun)

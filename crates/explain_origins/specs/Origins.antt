@@ -1,5 +1,5 @@
 -- Which records the state comes from that a rule is about.
-use Rattle.std.specs.Prelude.{◌≡◌, ℕ, Bool, List, [], ◌∷◌, ◌++◌, map, Option, Some, None, if◌then◌else◌}
+use Rattle.std.specs.Prelude.{◌≡◌, ℕ, Bool, List, [], ◌∷◌, ◌++◌, Option, Some, None, if◌then◌else◌}
 use Rattle.std.specs.List.{list_any}
 use Rattle.lf_rules.specs.declared.event.Event.{Event}
 use Rattle.lf_rules.specs.declared.event.Event.TheVariants as events
@@ -8,16 +8,15 @@ use Rattle.lf_rules.specs.declared.rule.Rule.{Rule}
 use Rattle.lf_rules.specs.declared.rule.Rule.TheVariants as rules
 use Rattle.lf_rules.specs.declared.shape.Shape.{Shape}
 use Rattle.lf_rules.specs.Address.{block_of, second_of, offset_of, set1_of, set2_of}
-use Rattle.lf_rules.specs.History.{accepted_by}
-use Rattle.explain_history.specs.Touching.{record_at, and_then}
+use Rattle.explain_history.specs.Touching.{record_at}
 use Rattle.explain_origins.specs.declared.origins.Origins.{Origins}
 use Rattle.explain_origins.specs.declared.parts.StatePart.{StatePart}
 use Rattle.explain_origins.specs.declared.parts.StatePart.TheVariants as parts
-use Rattle.explain_origins.specs.declared.requests.AcceptedRequest.{AcceptedRequest}
-use Rattle.explain_origins.specs.Accepted.{origin_at}
+use Rattle.explain_origins.specs.declared.requests.IssuedRequest.{IssuedRequest}
+use Rattle.explain_origins.specs.declared.standing.Origin.{Origin}
 use Rattle.explain_origins.specs.Events.{is_key}
 use Rattle.explain_origins.specs.Parts.{begun, ended}
-use Rattle.explain_origins.specs.Requests.{asked_for}
+use Rattle.explain_origins.specs.Requests.{Queues, none_waits, queued, accepted, origin_of}
 use Rattle.explain_origins.specs.Seen.{seen_by}
 
 -- ---- records, one after another
@@ -25,36 +24,50 @@ use Rattle.explain_origins.specs.Seen.{seen_by}
 -- a record at a place of the trace, with the request that it accepts
 pub record Step : Type 0 where
   pub place : ℕ
-  pub request : Option AcceptedRequest
+  pub request : Option IssuedRequest
   pub item : Record
 
-abbrev pub step_at : Shape → List Record → Option ℕ → Option Record → List Step
-step_at shape before (Some place) (Some r) =
-    record { place = place; request = asked_for (accepted_by shape before r.event); item = r } ∷ []
-step_at shape before _ _ = []
+abbrev pub step_at : Queues → Option ℕ → Option Record → List Step
+step_at queues (Some place) (Some r) =
+    record { place = place; request = accepted queues r.event; item = r } ∷ []
+step_at queues _ _ = []
 
--- the records at these places, where those before them stand latest first
-abbrev pub steps : Shape → List Record → List Record → List (Option ℕ) → List Step
-steps shape before rs [] = []
-steps shape before rs (at ∷ places) =
-    step_at shape before at (record_at rs at) ++ steps shape (and_then (record_at rs at) before) rs places
+abbrev pub queues_after : Shape → Queues → Option ℕ → Option Record → Queues
+queues_after shape queues (Some place) (Some r) = queued shape place r.log r.event queues
+queues_after shape queues _ _ = queues
+
+-- the records at these places, one after another, where these requests wait before them
+abbrev pub steps : Shape → Queues → List Record → List (Option ℕ) → List Step
+steps shape queues rs [] = []
+steps shape queues rs (at ∷ places) =
+    step_at queues at (record_at rs at) ++ steps shape (queues_after shape queues at (record_at rs at)) rs places
 
 -- ---- what stands after them
 
+abbrev pub origin_at : Step → Origin
+origin_at step = origin_of step.place step.request
+
+-- what the record begins in a part of the state, and what it ends
+abbrev pub begun_at : Shape → StatePart → Step → Option ℕ
+begun_at shape part step = begun shape part step.place step.request step.item
+
+abbrev pub ended_at : StatePart → Step → Option ℕ
+ended_at part step = ended part step.request step.item
+
 -- does one of these records end what has this key?
 abbrev pub is_ended : StatePart → ℕ → List Step → Bool
-is_ended part key later = list_any (λ step. is_key key (ended part step.request step.item)) later
+is_ended part key later = list_any (λ step. is_key key (ended_at part step)) later
 
--- the place of a record that begins what no later record ends
-abbrev pub unless_ended : StatePart → ℕ → Option ℕ → List Step → List ℕ
-unless_ended part place None later = []
-unless_ended part place (Some key) later = if is_ended part key later then [] else place ∷ []
+-- a record that begins what no later record ends
+abbrev pub unless_ended : StatePart → Origin → Option ℕ → List Step → List Origin
+unless_ended part origin None later = []
+unless_ended part origin (Some key) later = if is_ended part key later then [] else origin ∷ []
 
--- the places of all such records, in their order
-abbrev pub standing : Shape → StatePart → List Step → List ℕ
+-- all such records, in their order
+abbrev pub standing : Shape → StatePart → List Step → List Origin
 standing shape part [] = []
 standing shape part (step ∷ later) =
-    unless_ended part step.place (begun shape part step.request step.item) later ++ standing shape part later
+    unless_ended part (origin_at step) (begun_at shape part step) later ++ standing shape part later
 
 -- ---- the parts that rules are about
 
@@ -74,6 +87,14 @@ registers (events.SecondPrimary block register) = Some parts.Registers2
 registers (events.SecondMerge block register) = Some parts.Registers2
 registers (events.SecondStall block) = Some parts.Registers2
 registers _ = None
+
+-- the targets of the register that a miss names
+abbrev pub targets_named : Event → Option StatePart
+targets_named (events.Primary port tag register) = Some (parts.Register1 register)
+targets_named (events.Merge port tag register) = Some (parts.Register1 register)
+targets_named (events.SecondPrimary block register) = Some (parts.Register2 register)
+targets_named (events.SecondMerge block register) = Some (parts.Register2 register)
+targets_named _ = None
 
 -- the requests that wait of the port whose request is accepted or stalls
 abbrev pub queue : Event → Option StatePart
@@ -127,8 +148,8 @@ part_of shape rules.SetFull address r = filled_set shape r.event
 part_of shape rules.PrimaryInFlight address r = registers r.event
 part_of shape rules.NotInFlight address r = registers r.event
 part_of shape rules.WrongRegister address r = registers r.event
-part_of shape rules.RegisterBusy address r = registers r.event
-part_of shape rules.MergeFull address r = registers r.event
+part_of shape rules.RegisterBusy address r = targets_named r.event
+part_of shape rules.MergeFull address r = targets_named r.event
 part_of shape rules.NeedlessStall address r = registers r.event
 part_of shape rules.NotHead address r = queue r.event
 part_of shape rules.NotReady address r = Some (parts.Unanswered r.log)
@@ -149,7 +170,7 @@ part_of shape _ address r = None
 pub record AreOriginsOf (shape : Shape) (rs : List Record) (before : List (Option ℕ)) (part : StatePart)
     (origins : Origins) : Type 0 where
   pub part_is : origins.part ≡ part
-  pub records : origins.records.items ≡ map (origin_at rs before) (standing shape part (steps shape [] rs before))
+  pub records : origins.records.items ≡ standing shape part (steps shape none_waits rs before)
 
 abbrev pub AreOriginsOfAny : Shape → List Record → List (Option ℕ) → Option StatePart → Option Origins → Type 0
 AreOriginsOfAny shape rs before None origins = origins ≡ None

@@ -4,7 +4,7 @@ use Rattle.std.specs.List.{flat_map}
 use Rattle.lf_rules.specs.declared.event.Record.{Record}
 use Rattle.explain_lines.specs.Marks.{Beside}
 use Rattle.explain_lines.specs.Lines.{line_at}
-use Rattle.explain_origins.specs.declared.accepted.Origin.{Origin}
+use Rattle.explain_origins.specs.declared.standing.Origin.{Origin}
 use Rattle.explain_origins.specs.declared.origins.Origins.{Origins}
 use Rattle.explain_origins.specs.declared.parts.StatePart.{StatePart}
 use Rattle.explain_origins.specs.declared.parts.StatePart.TheVariants as parts
@@ -33,13 +33,13 @@ heading (parts.Accepted port tag) = codes "the acceptance of the request"
 heading (parts.LaterStores port tag block offset address value) =
     codes "the stores of the first wrong byte as it was found, accepted after the request"
 heading (parts.Served bank) = codes "the last fill of the bank, behind the targets that it served"
-heading (parts.LastStore block offset) = codes "the last accepted store of the first byte that differs"
+heading (parts.LastStore block offset) = codes "the store of the expected byte, where the bytes first differ"
 heading (parts.DirtyLine1 block) = codes "the fill of the line and the stores to it"
 heading (parts.DirtyLine2 second) = codes "the fill of the line and the evictions of dirty bytes to it"
 heading parts.Held1 = codes "the registers of level one that are held at the end"
 heading parts.Held2 = codes "the registers of level two that are held at the end"
 heading parts.Asked = codes "asked of level two, and not looked up by it"
-heading parts.LookedUp = codes "looked up by level two, and not filled into level one"
+heading parts.Supplied = codes "supplied by level two, and not filled into level one"
 heading parts.LastOfLevelTwo = codes "the last event of level two"
 heading parts.LastOfBank = codes "the last event of the bank"
 heading parts.Unreplied = codes "the requests without a reply, the oldest first"

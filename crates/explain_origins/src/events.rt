@@ -6,9 +6,10 @@ ghost use Rattle.explain_origins.specs.Events.{miss1_block, miss2_second, within
 ghost use Rattle.explain_origins.specs.Events.{store_of_byte, stored_block, written_back, tag_at};
 ghost use Rattle.explain_origins.specs.Events.{issued_tag, accepted_tag, replied_tag, named_register, in_register};
 ghost use Rattle.explain_origins.specs.Events.{cleared_by, asked_block, looked_up, of_level_two, port_tag};
-ghost use Rattle.explain_origins.specs.Events.{issued_by_any, replied_to_any};
+ghost use Rattle.explain_origins.specs.Events.{at_place, issued_by_any, replied_to_any};
+ghost use Rattle.explain_origins.specs.Requests.{place_of};
 
-use crate::requests::AcceptedRequest;
+use crate::requests::IssuedRequest;
 use lf_rules::{Event, Record, Shape};
 
 /// The block that level one gets.
@@ -52,7 +53,7 @@ pub(crate) fn evict2_second(event: &Event) -> Option<u32>
 }
 
 /// The block that a miss of level one is to.
-pub(crate) fn miss1_block(request: Option<AcceptedRequest>, event: &Event) -> Option<u64>
+pub(crate) fn miss1_block(request: Option<IssuedRequest>, event: &Event) -> Option<u64>
     ensures { result ≡ miss1_block request event.now }
 {
     match event {
@@ -75,7 +76,7 @@ pub(crate) fn miss2_second(shape: &Shape, event: &Event) -> Option<u64>
 }
 
 /// The block that level one asks level two for with a primary miss.
-pub(crate) fn asked_block(request: Option<AcceptedRequest>, event: &Event) -> Option<u64>
+pub(crate) fn asked_block(request: Option<IssuedRequest>, event: &Event) -> Option<u64>
     ensures { result ≡ asked_block request event.now }
 {
     match event {
@@ -164,7 +165,7 @@ pub(crate) fn either(first: Option<u64>, second: Option<u64>) -> Option<u64>
 }
 
 /// Whether the request writes the byte at this place of the block.
-pub(crate) fn writes_byte(block: u64, offset: u32, request: &AcceptedRequest) -> bool
+pub(crate) fn writes_byte(block: u64, offset: u32, request: &IssuedRequest) -> bool
     ensures { result ≡ writes_byte block offset request.now }
 {
     let end = u64::from(request.offset) + u64::from(request.size);
@@ -175,11 +176,7 @@ pub(crate) fn writes_byte(block: u64, offset: u32, request: &AcceptedRequest) ->
 }
 
 /// The block of a store that is accepted and writes this byte.
-pub(crate) fn store_of_byte(
-    block: u64,
-    offset: u32,
-    request: Option<AcceptedRequest>,
-) -> Option<u64>
+pub(crate) fn store_of_byte(block: u64, offset: u32, request: Option<IssuedRequest>) -> Option<u64>
     ensures { result ≡ store_of_byte block offset request }
 {
     let request = request?;
@@ -191,7 +188,7 @@ pub(crate) fn store_of_byte(
 }
 
 /// The block of a store that is accepted.
-pub(crate) fn stored_block(request: Option<AcceptedRequest>) -> Option<u64>
+pub(crate) fn stored_block(request: Option<IssuedRequest>) -> Option<u64>
     ensures { result ≡ stored_block request }
 {
     let request = request?;
@@ -221,6 +218,26 @@ pub(crate) fn only(wanted: u64, block: Option<u64>) -> Option<u64>
 {
     let block = block?;
     if block == wanted { Some(block) } else { None }
+}
+
+/// The place of the record, where there is such a block or tag.
+pub(crate) fn at_place(place: usize, key: Option<u64>) -> Option<u64>
+    ensures { result ≡ at_place place key }
+{
+    match key {
+        Some(_) => Some(place as u64),
+        None => None,
+    }
+}
+
+/// The place of a request.
+pub(crate) fn place_of(request: Option<IssuedRequest>) -> Option<u64>
+    ensures { result ≡ place_of request }
+{
+    match request {
+        Some(request) => Some(request.place as u64),
+        None => None,
+    }
 }
 
 /// The block, where the event accepts the request with this tag: what was stored before counts no longer.

@@ -2,45 +2,25 @@
 
 ghost use Rattle.std.specs.Prelude.{◌≡◌, ◌∷◌, [], IfOk};
 ghost use Rattle.lf_rules.specs.InRange.{IsShape};
-ghost use Rattle.explain_origins.specs.Further.{named_register_part, stalled_targets, freed, needless};
+ghost use Rattle.explain_origins.specs.Further.{stalled_targets, freed, needless};
 ghost use Rattle.explain_origins.specs.Further.{named_request, further_parts};
 ghost use Rattle.explain_origins.specs.Further.{replied_request, is_later_request, later_request, or_later};
-ghost use Rattle.explain_origins.specs.Further.{places_in, byte_of, wrote, told_of, records_in};
+ghost use Rattle.explain_origins.specs.Further.{is_among, supplied, all_in, byte_of, wrote, told_of, records_in};
 ghost use Rattle.explain_origins.specs.declared.parts.StatePart.TheVariants.{Served};
 ghost use Rattle.explain_origins.specs.Further.{AreOf, AreFurther};
+ghost use Rattle.explain_origins.specs.Origins.{steps};
+ghost use Rattle.explain_origins.specs.Requests.{none_waits};
 
-use crate::accepted::{Origin, with_requests};
 use crate::events::issued_tag;
 use crate::freed::last_end;
 use crate::origins::{BrokenRule, Origins};
 use crate::parts::StatePart;
 use crate::requests::{block_at, offset_at};
-use crate::standing::places_standing;
+use crate::standing::{Origin, origin_of, origins_standing};
 use explain_history::{record_at, room};
 use lf_codec::Packed;
 use lf_rules::{Event, NoMemory, Record, Rule, Shape};
 use std::alloc::Global;
-
-/// What is in the register that a miss names.
-fn named_register_part(alloc: Global, event: &Event) -> Result<Vec<StatePart>, NoMemory>
-    ensures { IfOk result (λ parts. parts.items ≡ named_register_part event.now) }
-{
-    match event {
-        Event::Primary { register, .. } | Event::Merge { register, .. } => {
-            let part = StatePart::Register1 {
-                register: u32::from(*register),
-            };
-            Ok(Vec::from_slice(alloc, &[part])?)
-        }
-        Event::SecondPrimary { register, .. } | Event::SecondMerge { register, .. } => {
-            let part = StatePart::Register2 {
-                register: u32::from(*register),
-            };
-            Ok(Vec::from_slice(alloc, &[part])?)
-        }
-        _ => Ok(Vec::new(alloc)),
-    }
-}
 
 /// The targets of the block of a stall, which is at this address where level one stalls.
 fn stalled_targets(
@@ -178,7 +158,6 @@ fn further_parts(
 {
     let item = broken.item;
     match broken.rule {
-        Rule::RegisterBusy | Rule::MergeFull => named_register_part(alloc, &item.event),
         Rule::NeedlessStall => needless(alloc, shape, broken),
         Rule::NotHead => named_request(alloc, item),
         Rule::ReplyData => replied_request(alloc, shape, broken),
@@ -221,30 +200,53 @@ fn later_request(records: &Packed, naming: Naming) -> Option<usize>
     None
 }
 
-/// These, and where there are none this one.
-fn or_later(alloc: Global, places: Vec<usize>, later: Option<usize>) -> Result<Vec<usize>, NoMemory>
-    ensures { IfOk result (λ all. all.items ≡ or_later places.items later) }
+/// These, and where there are none the request at this place.
+fn or_later(alloc: Global, all: Vec<Origin>, later: Option<usize>) -> Result<Vec<Origin>, NoMemory>
+    ensures { IfOk result (λ now. now.items ≡ or_later all.items later) }
 {
-    if !places.is_empty() {
-        return Ok(places);
+    if !all.is_empty() {
+        return Ok(all);
     }
     match later {
-        Some(place) => Ok(Vec::from_slice(alloc, &[place])?),
+        Some(place) => Ok(vec![in alloc; origin_of(place, None)]?),
         None => Ok(Vec::new(alloc)),
     }
 }
 
+/// Whether the record is one of these.
+fn is_among(all: &[Origin], origin: &Origin) -> bool
+    ensures { result ≡ is_among all.now origin.now }
+{
+    all.iter().any(|one| one.place == origin.place)
+}
+
+/// Of the blocks that level two looked up those that it supplied: none of its registers holds them.
+fn supplied(
+    alloc: Global,
+    shape: &Shape,
+    records: &Packed,
+    before: &[Option<usize>],
+) -> Result<Vec<Origin>, NoMemory>
+    requires { IsShape shape.now }
+    ensures { IfOk result (λ all. all.items ≡ supplied shape.now
+        (steps shape.now none_waits records.now.records before.now)) }
+{
+    let held = origins_standing(alloc, shape, records, before, StatePart::Held2)?;
+    let mut all = origins_standing(alloc, shape, records, before, StatePart::Supplied)?;
+    all.retain(|origin| !is_among(&held, origin));
+    Ok(all)
+}
+
 /// The records of a part, of those at the places before. The request that is named may come later.
-fn places_in(
+fn all_in(
     alloc: Global,
     shape: &Shape,
     records: &Packed,
     before: &[Option<usize>],
     part: StatePart,
-) -> Result<Vec<usize>, NoMemory>
+) -> Result<Vec<Origin>, NoMemory>
     requires { IsShape shape.now }
-    ensures { IfOk result (λ places. places.items
-        ≡ places_in shape.now records.now.records before.now part) }
+    ensures { IfOk result (λ all. all.items ≡ all_in shape.now records.now.records before.now part) }
 {
     match part {
         StatePart::Freed1 { .. } | StatePart::Freed2 { .. } | StatePart::Served { .. } => {
@@ -262,10 +264,11 @@ fn places_in(
                 bank,
                 number,
             };
-            let places = places_standing(alloc, shape, records, before, part)?;
-            or_later(alloc, places, later_request(records, naming))
+            let all = origins_standing(alloc, shape, records, before, part)?;
+            or_later(alloc, all, later_request(records, naming))
         }
-        _ => places_standing(alloc, shape, records, before, part),
+        StatePart::Supplied => supplied(alloc, shape, records, before),
+        _ => origins_standing(alloc, shape, records, before, part),
     }
 }
 
@@ -319,8 +322,7 @@ fn records_in(
     requires { IsShape shape.now }
     ensures { IfOk result (λ all. all.items ≡ records_in shape.now records.now.records before.now part) }
 {
-    let places = places_in(alloc, shape, records, before, part)?;
-    let mut all = with_requests(alloc, records, before, &places)?;
+    let mut all = all_in(alloc, shape, records, before, part)?;
     keep_told(records, part, &mut all);
     Ok(all)
 }

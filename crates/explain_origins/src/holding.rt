@@ -6,7 +6,7 @@ ghost use Rattle.explain_origins.specs.Holding.{register_in, first_register, reg
 
 use crate::events::named_register;
 use crate::parts::StatePart;
-use crate::standing::places_standing;
+use crate::standing::{Origin, origins_standing};
 use explain_history::{record_at, room};
 use lf_codec::Packed;
 use lf_rules::{NoMemory, Shape};
@@ -24,12 +24,12 @@ pub fn register_at(records: &Packed, place: usize) -> Option<u32>
     }
 }
 
-/// The register that the first of the misses at these places took.
-fn first_register(records: &Packed, places: &[usize]) -> Option<u32>
-    ensures { result ≡ first_register records.now.records places.now }
+/// The register that the first of these misses took.
+fn first_register(records: &Packed, misses: &[Origin]) -> Option<u32>
+    ensures { result ≡ first_register records.now.records misses.now }
 {
-    match places.first() {
-        Some(place) => register_at(records, *place),
+    match misses.first() {
+        Some(miss) => register_at(records, miss.place),
         None => None,
     }
 }
@@ -46,6 +46,6 @@ pub fn register_of(
     requires { IsShape shape.now }
     ensures { IfOk result (λ register. register ≡ register_of shape.now records.now.records before.now part) }
 {
-    let places = places_standing(alloc, shape, records, before, part)?;
-    Ok(first_register(records, &places))
+    let misses = origins_standing(alloc, shape, records, before, part)?;
+    Ok(first_register(records, &misses))
 }

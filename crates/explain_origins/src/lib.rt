@@ -7,12 +7,11 @@
 //! `OriginsText` is their text, which `specs/Text` says exactly.
 #![tactic(auto)]
 
-mod accepted;
 mod events;
 mod freed;
 mod further;
 mod holding;
-mod last_store;
+mod laws;
 mod origins;
 mod parts;
 mod requests;
@@ -20,11 +19,11 @@ mod seen;
 mod standing;
 mod text;
 
-pub use accepted::Origin;
 pub use further::{further_of, origins_of_all};
 pub use holding::{register_at, register_of};
+pub use laws::queues_are_of_the_rules;
 pub use lf_rules::NoMemory;
 pub use origins::{BrokenRule, Origins, origins_of};
 pub use parts::StatePart;
-pub use standing::places_standing;
+pub use standing::{Origin, origins_standing};
 pub use text::OriginsText;

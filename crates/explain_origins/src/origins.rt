@@ -2,15 +2,14 @@
 
 ghost use Rattle.std.specs.Prelude.{◌≡◌, ◌<◌, IfOk};
 ghost use Rattle.lf_rules.specs.InRange.{IsShape};
-ghost use Rattle.explain_origins.specs.Origins.{filled_set, registers, queue, evicted_second, dirty_line};
-ghost use Rattle.explain_origins.specs.Origins.{last_store, busy_tag, replied, line1_at, line2_of, part_of};
+ghost use Rattle.explain_origins.specs.Origins.{filled_set, registers, targets_named, queue, evicted_second};
+ghost use Rattle.explain_origins.specs.Origins.{dirty_line, last_store, busy_tag, replied, line1_at, line2_of, part_of};
 ghost use Rattle.explain_origins.specs.Origins.{AreOriginsOfAny, AreOrigins};
 
-use crate::accepted::{Origin, with_requests};
 use crate::parts::StatePart;
 use crate::requests::{block_at, offset_at};
 use crate::seen::seen_by;
-use crate::standing::places_standing;
+use crate::standing::{Origin, origins_standing};
 use lf_codec::Packed;
 use lf_levels::{Level, One, Two};
 use lf_rules::{Event, NoMemory, Record, Rule, Shape};
@@ -63,6 +62,25 @@ fn registers(event: &Event) -> Option<StatePart>
         }
         Event::SecondPrimary { .. } | Event::SecondMerge { .. } | Event::SecondStall { .. } => {
             Some(StatePart::Registers2)
+        }
+        _ => None,
+    }
+}
+
+/// The targets of the register that a miss names.
+fn targets_named(event: &Event) -> Option<StatePart>
+    ensures { result ≡ targets_named event.now }
+{
+    match event {
+        Event::Primary { register, .. } | Event::Merge { register, .. } => {
+            Some(StatePart::Register1 {
+                register: u32::from(*register),
+            })
+        }
+        Event::SecondPrimary { register, .. } | Event::SecondMerge { register, .. } => {
+            Some(StatePart::Register2 {
+                register: u32::from(*register),
+            })
         }
         _ => None,
     }
@@ -185,12 +203,9 @@ fn part_of(shape: &Shape, broken: BrokenRule<'_>) -> Option<StatePart>
     let event = &item.event;
     match rule {
         Rule::SetFull => filled_set(shape, event),
-        Rule::PrimaryInFlight
-        | Rule::NotInFlight
-        | Rule::WrongRegister
-        | Rule::RegisterBusy
-        | Rule::MergeFull
-        | Rule::NeedlessStall => registers(event),
+        Rule::PrimaryInFlight | Rule::NotInFlight | Rule::WrongRegister | Rule::NeedlessStall =>
+            registers(event),
+        Rule::RegisterBusy | Rule::MergeFull => targets_named(event),
         Rule::NotHead => queue(event),
         Rule::NotReady => Some(StatePart::Unanswered { port: item.log }),
         Rule::NotOutstanding | Rule::FenceBusy => Some(StatePart::Outstanding { port: item.log }),
@@ -219,8 +234,7 @@ fn origins_in(
     let Some(part) = part else {
         return Ok(None);
     };
-    let places = places_standing(alloc, shape, records, before, part)?;
-    let records = with_requests(alloc, records, before, &places)?;
+    let records = origins_standing(alloc, shape, records, before, part)?;
     Ok(Some(Origins { part, records }))
 }
 

@@ -6,12 +6,12 @@ ghost use Rattle.lf_rules.specs.InRange.{IsShape};
 ghost use Rattle.explain_origins.specs.Parts.{in_set};
 
 use crate::events::{
-    accepted_tag, asked_block, cleared_by, either, evict1_block, evict2_second, fill1_block,
-    fill2_second, in_register, issued_by_any, issued_tag, looked_up, miss1_block, miss2_second,
-    of_level_two, only, replied_tag, replied_to_any, store_of_byte, stored_block, within,
-    written_back,
+    accepted_tag, asked_block, at_place, cleared_by, either, evict1_block, evict2_second,
+    fill1_block, fill2_second, in_register, issued_by_any, issued_tag, looked_up, miss1_block,
+    miss2_second, of_level_two, only, place_of, replied_tag, replied_to_any, store_of_byte,
+    stored_block, within, written_back,
 };
-use crate::requests::AcceptedRequest;
+use crate::requests::IssuedRequest;
 use lf_levels::{Level, One, Two};
 use lf_rules::{Record, Shape};
 
@@ -134,8 +134,9 @@ pub enum StatePart {
     Held2,
     /// The blocks that level one asked level two for: primary misses, until level two looks the block up.
     Asked,
-    /// The blocks that level two looked up: its hits, primary misses and merges, until level one is filled.
-    LookedUp,
+    /// The blocks that level two supplied: its hits, and its primary misses and merges whose register it filled, until
+    /// level one is filled.
+    Supplied,
     /// The last event of level two.
     LastOfLevelTwo,
     /// The last event of the bank.
@@ -182,15 +183,16 @@ impl StatePart {
     ghost use Rattle.lf_rules.specs.InRange.{IsShape};
     ghost use Rattle.explain_origins.specs.Parts.{begun, ended};
 
-    /// What the record begins in this part, by its block or its tag. The record accepts this request.
+    /// What the record at the place begins in this part, by its block, its tag or its place. It accepts this request.
     pub(crate) fn begun(
         self,
         shape: &Shape,
-        request: Option<AcceptedRequest>,
+        place: usize,
+        request: Option<IssuedRequest>,
         item: &Record,
     ) -> Option<u64>
         requires { IsShape shape.now }
-        ensures { result ≡ begun shape.now self request item.now }
+        ensures { result ≡ begun shape.now self place request item.now }
     {
         let event = &item.event;
         match self {
@@ -198,7 +200,7 @@ impl StatePart {
             StatePart::LinesOfSet2 { set } => in_set2(shape, set, fill2_second(event)),
             StatePart::Registers1 | StatePart::Held1 => miss1_block(request, event),
             StatePart::Registers2 | StatePart::Held2 => miss2_second(shape, event),
-            StatePart::Queue { port } => issued_tag(port, item),
+            StatePart::Queue { port } => at_place(place, issued_tag(port, item)),
             StatePart::Unanswered { port } => accepted_tag(port, event),
             StatePart::Outstanding { port } => issued_tag(port, item),
             StatePart::BusyTag { port, tag } => only(u64::from(tag), issued_tag(port, item)),
@@ -217,7 +219,7 @@ impl StatePart {
             StatePart::Line1 { block } => only(block, wide(fill1_block(event))),
             StatePart::Line2 { second } => only(second, wide(fill2_second(event))),
             StatePart::NamedRequest { port, tag, .. } => {
-                only(u64::from(tag), issued_tag(port, item))
+                at_place(place, only(u64::from(tag), issued_tag(port, item)))
             }
             StatePart::Accepted { port, tag } => only(u64::from(tag), accepted_tag(port, event)),
             StatePart::LaterStores { block, offset, .. } | StatePart::LastStore { block, offset } =>
@@ -236,15 +238,15 @@ impl StatePart {
                 )
             }
             StatePart::Asked => asked_block(request, event),
-            StatePart::LookedUp => wide(looked_up(event)),
+            StatePart::Supplied => wide(looked_up(event)),
             StatePart::LastOfLevelTwo => of_level_two(event),
             StatePart::LastOfBank => Some(0),
             StatePart::Unreplied => issued_by_any(item),
         }
     }
 
-    /// What the record ends in this part, by its block or its tag. It accepts this request.
-    pub(crate) fn ended(self, request: Option<AcceptedRequest>, item: &Record) -> Option<u64>
+    /// What the record ends in this part, by the same. It accepts this request.
+    pub(crate) fn ended(self, request: Option<IssuedRequest>, item: &Record) -> Option<u64>
         ensures { result ≡ ended self request item.now }
     {
         let event = &item.event;
@@ -253,7 +255,7 @@ impl StatePart {
             StatePart::LinesOfSet2 { .. } | StatePart::Line2 { .. } => wide(evict2_second(event)),
             StatePart::Registers1
             | StatePart::Held1
-            | StatePart::LookedUp
+            | StatePart::Supplied
             | StatePart::Register1 { .. }
             | StatePart::Freed1 { .. }
             | StatePart::Served { .. }
@@ -263,9 +265,7 @@ impl StatePart {
             | StatePart::Register2 { .. }
             | StatePart::Freed2 { .. }
             | StatePart::Targets2 { .. } => wide(fill2_second(event)),
-            StatePart::Queue { port } | StatePart::NamedRequest { port, .. } => {
-                accepted_tag(port, event)
-            }
+            StatePart::Queue { .. } | StatePart::NamedRequest { .. } => place_of(request),
             StatePart::Unanswered { port }
             | StatePart::Outstanding { port }
             | StatePart::Accepted { port, .. }

@@ -1,17 +1,23 @@
-//! The requests of the ports, as their issues ask for them.
+//! The requests that wait at a bank, as their issues ask for them.
 
-ghost use Rattle.std.specs.Prelude.{◌≡◌, ◌+◌, ◌*◌, ◌<◌, None, replicate, IfOk};
+ghost use Rattle.std.specs.Prelude.{◌≡◌, ◌<◌, ◌++◌, ◌∷◌, ℕ, [], drop, length, slice_get, IfOk, OnOk};
 ghost use Rattle.lf_rules.specs.Address.{block_of, offset_of};
+ghost use Rattle.lf_rules.specs.State.{update};
+ghost use Rattle.explain_origins.specs.Requests.{queue_at};
 
 use lf_rules::{Event, NoMemory, Op, Record, Shape};
 use std::alloc::Global;
+use std::collections::VecDeque;
+use std::marker::Model;
 
-/// As many as there are ports and tags of each.
-const REQUESTS: usize = 65536;
+/// As many as there are numbers of ports.
+const PORTS: usize = 256;
 
-/// What an event that accepts a request is about.
+/// A request, as its issue asks for it.
 #[derive(Clone, Copy)]
-pub(crate) struct AcceptedRequest {
+pub(crate) struct IssuedRequest {
+    /// The place of its issue.
+    pub place: usize,
     pub block: u64,
     /// The place of its first byte in the block.
     pub offset: u32,
@@ -20,23 +26,86 @@ pub(crate) struct AcceptedRequest {
     pub is_store: bool,
 }
 
-/// The latest request of each port and tag.
+/// The requests of a port that wait, the head of the queue first.
 #[derive(Drop)]
-pub(crate) struct Requests {
-    pub latest: Vec<Option<AcceptedRequest>>,
+pub(crate) struct Queue {
+    requests: VecDeque<IssuedRequest>,
 }
 
-/// So many times nothing.
-fn nothing(alloc: Global, count: usize) -> Result<Vec<Option<AcceptedRequest>>, NoMemory>
-    ensures { IfOk result (λ latest. latest.items ≡ replicate count None) }
-{
-    Ok(vec![in alloc; None; count]?)
+impl Model for Queue {
+    ghost use Rattle.std.specs.Prelude.{List};
+    ghost use Rattle.explain_origins.specs.declared.requests.IssuedRequest.{IssuedRequest};
+
+    ghost Value = { List IssuedRequest };
+
+    ghost view = { λ q. q.requests.items };
 }
 
-fn index_of(port: u8, tag: u8) -> usize
-    ensures { result ≡ port * 256 + tag }
+impl Queue {
+    /// No request yet.
+    fn new(alloc: Global) -> Queue
+        ensures { result ≡ [] }
+    {
+        Queue {
+            requests: VecDeque::new(alloc),
+        }
+    }
+
+    fn head(&self) -> Option<IssuedRequest>
+        ensures { result ≡ slice_get self.now 0 }
+    {
+        self.requests.front().copied()
+    }
+
+    fn push(&mut self, request: IssuedRequest) -> Result<(), NoMemory>
+        ensures { OnOk result (self.new ≡ self.old ++ request ∷ []) }
+    {
+        self.requests.push_back(request)?;
+        Ok(())
+    }
+
+    /// The head leaves.
+    fn pop(&mut self)
+        ensures { self.new ≡ drop 1 self.old }
+    {
+        let _ = self.requests.pop_front();
+    }
+}
+
+/// An empty queue for each number of a port.
+fn empty_queues(alloc: Global) -> Result<Vec<Queue>, NoMemory>
+    ensures ports { IfOk result (λ queues. length queues.items ≡ 256) }
+    ensures empty { IfOk result (λ queues. (port : ℕ) → queue_at queues.items port ≡ []) }
 {
-    usize::from(port) * 256 + usize::from(tag)
+    let mut queues = Vec::new(alloc);
+    for _ in 0..PORTS {
+        queues.push(Queue::new(alloc))?;
+    }
+    Ok(queues)
+}
+
+/// The head of the port's queue.
+fn head(queues: &[Queue], port: u8) -> Option<IssuedRequest>
+    ensures { result ≡ slice_get (queue_at queues.now port) 0 }
+{
+    queues.get(usize::from(port))?.head()
+}
+
+/// The head of the port's queue leaves.
+fn drop_head(queues: &mut [Queue], port: u8)
+    requires { port < length queues.old }
+    ensures { queue_at queues.new ≡ update (queue_at queues.old) port (drop 1 (queue_at queues.old port)) }
+{
+    queues[usize::from(port)].pop();
+}
+
+/// The request joins the port's queue.
+fn enqueue(queues: &mut [Queue], port: u8, request: IssuedRequest) -> Result<(), NoMemory>
+    requires { port < length queues.old }
+    ensures { OnOk result (queue_at queues.new ≡ update (queue_at queues.old) port
+        (queue_at queues.old port ++ request ∷ [])) }
+{
+    queues[usize::from(port)].push(request)
 }
 
 /// The block of an address.
@@ -55,65 +124,74 @@ pub(crate) fn offset_at(shape: &Shape, address: u64) -> u32
     (address % u64::from(shape.block)) as u32
 }
 
+/// The requests of each port that wait.
+#[derive(Drop)]
+pub(crate) struct Requests {
+    queues: Vec<Queue>,
+}
+
+impl Model for Requests {
+    ghost use Rattle.std.specs.Prelude.{◌≡◌, List, length};
+    ghost use Rattle.explain_origins.specs.declared.requests.IssuedRequest.{IssuedRequest};
+
+    ghost Value = { List (List IssuedRequest) };
+
+    ghost view = { λ r. r.queues.items };
+
+    ghost invariant = { λ r. length r.queues.items ≡ 256 };
+}
+
 impl Requests {
-    ghost use Rattle.std.specs.Prelude.{ℕ, ◌∷◌, [], List, IfOk, length};
-    ghost use Rattle.lf_rules.specs.declared.event.Record.{Record};
-    ghost use Rattle.lf_rules.specs.declared.shape.Shape.{Shape};
-    ghost use Rattle.lf_rules.specs.History.{latest_issue, accepted_by};
-    ghost use Rattle.explain_origins.specs.Requests.{IsLatest, asked_for};
+    ghost use Rattle.std.specs.Prelude.{◌≡◌, ◌<◌, IfOk, OnOk};
+    ghost use Rattle.explain_origins.specs.Requests.{accepted, none_waits, queue_at, queued};
 
     /// No request came yet.
     pub fn new(alloc: Global) -> Result<Requests, NoMemory>
-        ensures { IfOk result (λ requests. (shape : Shape) → IsLatest shape [] requests) }
+        ensures { IfOk result (λ requests. queue_at requests ≡ none_waits) }
     {
-        let latest = nothing(alloc, REQUESTS)?;
-        Ok(Requests { latest })
+        let queues = empty_queues(alloc)?;
+        Ok(Requests { queues })
     }
 
-    /// The latest request of the port with this tag.
-    fn latest(&self, port: u8, tag: u8) -> Option<AcceptedRequest>
-        requires { length self.now.latest.items ≡ 65536 }
-        ensures { (shape : Shape) (before : List Record) → IsLatest shape before self.now
-            → result ≡ asked_for (latest_issue shape port tag before) }
-    {
-        self.latest[index_of(port, tag)]
-    }
-
-    /// The request that the event accepts.
-    pub fn accepted_by(&self, event: &Event) -> Option<AcceptedRequest>
-        requires { length self.now.latest.items ≡ 65536 }
-        ensures { (shape : Shape) (before : List Record) → IsLatest shape before self.now
-            → result ≡ asked_for (accepted_by shape before event.now) }
+    /// The request that the event accepts: the head of the queue of its port.
+    pub fn accepted_by(&self, event: &Event) -> Option<IssuedRequest>
+        ensures { result ≡ accepted (queue_at self.now) event.now }
     {
         match event {
-            Event::Hit { port, tag }
-            | Event::Primary { port, tag, .. }
-            | Event::Merge { port, tag, .. } => self.latest(*port, *tag),
+            Event::Hit { port, .. } | Event::Primary { port, .. } | Event::Merge { port, .. } => {
+                head(&self.queues, *port)
+            }
             _ => None,
         }
     }
 
-    /// The record came.
-    pub fn note(&mut self, shape: &Shape, item: &Record)
-        requires len { length self.old.latest.items ≡ 65536 }
-        requires block { 0 < shape.now.block }
-        ensures { (before : List Record) → IsLatest shape.now before self.old
-            → IsLatest shape.now (item.now ∷ before) self.new }
+    /// The record at the place came.
+    pub fn note(&mut self, shape: &Shape, place: usize, item: &Record) -> Result<(), NoMemory>
+        requires { 0 < shape.now.block }
+        ensures { OnOk result (queue_at self.new
+            ≡ queued shape.now place item.now.log item.now.event (queue_at self.old)) }
     {
-        if let Event::Issue {
-            op,
-            tag,
-            size,
-            address,
-            ..
-        } = &item.event
-        {
-            self.latest[index_of(item.log, *tag)] = Some(AcceptedRequest {
-                block: block_at(shape, *address),
-                offset: offset_at(shape, *address),
-                size: *size,
-                is_store: matches!(op, Op::Store),
-            });
+        match &item.event {
+            Event::Issue {
+                op,
+                size,
+                address,
+                ..
+            } => {
+                let request = IssuedRequest {
+                    place,
+                    block: block_at(shape, *address),
+                    offset: offset_at(shape, *address),
+                    size: *size,
+                    is_store: matches!(op, Op::Store),
+                };
+                enqueue(&mut self.queues, item.log, request)
+            }
+            Event::Hit { port, .. } | Event::Primary { port, .. } | Event::Merge { port, .. } => {
+                drop_head(&mut self.queues, *port);
+                Ok(())
+            }
+            _ => Ok(()),
         }
     }
 }

@@ -1,35 +1,53 @@
 //! What stands of a part of the state after some records.
 
-ghost use Rattle.std.specs.Prelude.{◌≡◌, [], IfOk, OnOk};
+ghost use Rattle.std.specs.Prelude.{◌≡◌, IfOk, OnOk};
 ghost use Rattle.lf_rules.specs.InRange.{IsShape};
-ghost use Rattle.explain_origins.specs.declared.parts.StatePart.TheVariants.{LastStore};
 ghost use Rattle.explain_origins.specs.Origins.{steps, standing};
-ghost use Rattle.explain_origins.specs.Kept.{places_of, without, kept_after};
+ghost use Rattle.explain_origins.specs.Kept.{begun_by, without, kept_after};
+ghost use Rattle.explain_origins.specs.Requests.{none_waits, origin_of};
 
-use crate::last_store::{ByteAt, last_store};
 use crate::parts::StatePart;
-use crate::requests::Requests;
+use crate::requests::{IssuedRequest, Requests};
 use explain_history::{record_at, room};
 use lf_codec::Packed;
 use lf_rules::{NoMemory, Shape};
 use std::alloc::Global;
 
-/// What a record began: the place of the record, and the block or the tag.
+/// A record that a part of the state comes from.
+#[derive(Clone, Copy, PartialEq, Eq)]
+pub struct Origin {
+    pub place: usize,
+    /// The place of the request that it accepts, where it accepts one.
+    pub request: Option<usize>,
+}
+
+/// The record at the place, with the request that it accepts.
+pub(crate) fn origin_of(place: usize, request: Option<IssuedRequest>) -> Origin
+    ensures { result ≡ origin_of place request }
+{
+    let request = match request {
+        Some(request) => Some(request.place),
+        None => None,
+    };
+    Origin { place, request }
+}
+
+/// What a record began: the record, and the block, the tag or the place of a request.
 #[derive(Clone, Copy)]
 pub(crate) struct Begun {
-    pub place: usize,
+    pub origin: Origin,
     pub key: u64,
 }
 
-/// The places of the records that began these.
-fn places_of(alloc: Global, begun: &[Begun]) -> Result<Vec<usize>, NoMemory>
-    ensures { IfOk result (λ places. places.items ≡ places_of begun.now) }
+/// The records that began these.
+fn begun_by(alloc: Global, begun: &[Begun]) -> Result<Vec<Origin>, NoMemory>
+    ensures { IfOk result (λ all. all.items ≡ begun_by begun.now) }
 {
-    let mut places = Vec::new(alloc);
+    let mut all = Vec::new(alloc);
     for one in begun {
-        places.push(one.place)?;
+        all.push(one.origin)?;
     }
-    Ok(places)
+    Ok(all)
 }
 
 /// Those with another key stay.
@@ -42,33 +60,33 @@ fn remove(begun: &mut Vec<Begun>, key: u64)
 /// A record came that ends and begins this.
 pub(crate) fn keep(
     standing: &mut Vec<Begun>,
-    place: usize,
+    origin: Origin,
     begun: Option<u64>,
     ended: Option<u64>,
 ) -> Result<(), NoMemory>
-    ensures { OnOk result (standing.new.items ≡ kept_after place begun ended standing.old.items) }
+    ensures { OnOk result (standing.new.items ≡ kept_after origin begun ended standing.old.items) }
 {
     if let Some(key) = ended {
         remove(standing, key);
     }
     if let Some(key) = begun {
-        standing.push(Begun { place, key })?;
+        standing.push(Begun { origin, key })?;
     }
     Ok(())
 }
 
-/// The places of the records that begin what is in this part of the state and what no later record ends, of the
-/// records at these places.
-fn standing_of_all(
+/// The records that begin what is in this part of the state and what no later record ends, of the records at these
+/// places, each with the request that it accepts.
+pub fn origins_standing(
     alloc: Global,
     shape: &Shape,
     records: &Packed,
     before: &[Option<usize>],
     part: StatePart,
-) -> Result<Vec<usize>, NoMemory>
+) -> Result<Vec<Origin>, NoMemory>
     requires { IsShape shape.now }
-    ensures { IfOk result (λ places. places.items
-        ≡ standing shape.now part (steps shape.now [] records.now.records before.now)) }
+    ensures { IfOk result (λ all. all.items
+        ≡ standing shape.now part (steps shape.now none_waits records.now.records before.now)) }
 {
     let mut requests = Requests::new(alloc)?;
     let mut open = Vec::new(alloc);
@@ -81,63 +99,11 @@ fn standing_of_all(
             continue;
         };
         let request = requests.accepted_by(&item.event);
-        let begun = part.begun(shape, request, item);
+        let origin = origin_of(place, request);
+        let begun = part.begun(shape, place, request, item);
         let ended = part.ended(request, item);
-        keep(&mut open, place, begun, ended)?;
-        requests.note(shape, item);
+        keep(&mut open, origin, begun, ended)?;
+        requests.note(shape, place, item)?;
     }
-    places_of(alloc, &open)
-}
-
-/// How many of the last records are looked at first.
-const NEAR: usize = 16384;
-
-/// The place of the last store to the byte, of the records at these places. Mostly it is found among few records, and
-/// so more and more of the last records are looked at.
-fn standing_store(
-    alloc: Global,
-    shape: &Shape,
-    records: &Packed,
-    before: &[Option<usize>],
-    byte: ByteAt,
-) -> Result<Vec<usize>, NoMemory>
-    requires { IsShape shape.now }
-    ensures { IfOk result (λ places. places.items ≡ standing shape.now (LastStore byte.block byte.offset)
-        (steps shape.now [] records.now.records before.now)) }
-{
-    let mut size = NEAR;
-    while size < before.len() {
-        let near = &before[before.len() - size..];
-        if let Some(place) = last_store(alloc, shape, records, near, byte)? {
-            return Ok(vec![in alloc; place]?);
-        }
-        size = size.saturating_mul(4);
-    }
-    let part = StatePart::LastStore {
-        block: byte.block,
-        offset: byte.offset,
-    };
-    standing_of_all(alloc, shape, records, before, part)
-}
-
-/// The places of the records that begin what is in this part of the state and what no later record ends, of the
-/// records at these places.
-pub fn places_standing(
-    alloc: Global,
-    shape: &Shape,
-    records: &Packed,
-    before: &[Option<usize>],
-    part: StatePart,
-) -> Result<Vec<usize>, NoMemory>
-    requires { IsShape shape.now }
-    ensures { IfOk result (λ places. places.items
-        ≡ standing shape.now part (steps shape.now [] records.now.records before.now)) }
-{
-    match part {
-        StatePart::LastStore { block, offset } => {
-            let byte = ByteAt { block, offset };
-            standing_store(alloc, shape, records, before, byte)
-        }
-        _ => standing_of_all(alloc, shape, records, before, part),
-    }
+    begun_by(alloc, &open)
 }

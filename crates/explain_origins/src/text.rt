@@ -4,9 +4,9 @@ ghost use Rattle.std.specs.Prelude.{Some};
 ghost use Rattle.explain_lines.specs.Marks.{besides};
 ghost use Rattle.explain_origins.specs.Text.{request_line, origin_line, origin_lines, origins_text};
 
-use crate::accepted::Origin;
 use crate::origins::Origins;
 use crate::parts::StatePart;
+use crate::standing::Origin;
 use explain_lines::{Listing, RecordLine};
 use std::fmt;
 
@@ -43,7 +43,8 @@ impl StatePart {
             }
             StatePart::Served { .. } =>
                 "the last fill of the bank, behind the targets that it served",
-            StatePart::LastStore { .. } => "the last accepted store of the first byte that differs",
+            StatePart::LastStore { .. } =>
+                "the store of the expected byte, where the bytes first differ",
             StatePart::DirtyLine1 { .. } => "the fill of the line and the stores to it",
             StatePart::DirtyLine2 { .. } => {
                 "the fill of the line and the evictions of dirty bytes to it"
@@ -51,7 +52,7 @@ impl StatePart {
             StatePart::Held1 => "the registers of level one that are held at the end",
             StatePart::Held2 => "the registers of level two that are held at the end",
             StatePart::Asked => "asked of level two, and not looked up by it",
-            StatePart::LookedUp => "looked up by level two, and not filled into level one",
+            StatePart::Supplied => "supplied by level two, and not filled into level one",
             StatePart::LastOfLevelTwo => "the last event of level two",
             StatePart::LastOfBank => "the last event of the bank",
             StatePart::Unreplied => "the requests without a reply, the oldest first",

@@ -1,7 +1,7 @@
 -- The request that a record names is one that a trace of the shape may have.
 use Rattle.std.proofs.Common.{◌≡◌, ℕ, ◌+◌, ◌*◌, ◌/◌, ◌<◌, ◌≤◌, ◌^◌, Bool, true, false, ◌&&◌, ◌==◌, if◌then◌else◌}
-use Rattle.std.proofs.Common.{List, [], ◌∷◌, Option, Some, None, subst, arith}
-use Rattle.std.specs.Prelude.{fold}
+use Rattle.std.proofs.Common.{List, [], ◌∷◌, ◌++◌, drop, Option, Some, None, refl, subst, arith}
+use Rattle.std.specs.Prelude.{fold, option_to_list}
 use Rattle.std.specs.Option.{ForSome}
 use Rattle.std.specs.List.{AllByRecursion}
 use Rattle.std.proofs.Math.Nat.{lt-div-mul-add, mul-le-mul_left}
@@ -13,8 +13,8 @@ use Rattle.lf_rules.specs.declared.event.Event.TheVariants as events
 use Rattle.lf_rules.specs.declared.event.Record.{Record}
 use Rattle.lf_rules.specs.Address.{block_of}
 use Rattle.lf_rules.specs.Fits.{Fits, FitsEvent, is_block_size}
-use Rattle.explain_history.specs.Request.{address_by}
-use Rattle.explain_replay.specs.Request.{requested}
+use Rattle.explain_history.specs.Request.{address_by, last_address}
+use Rattle.explain_replay.specs.Request.{accepts, waits_after, waiting, first_or, request_address, requested}
 
 -- the block of the address has a number
 abbrev pub HasBlock : Shape → Option ℕ → Type 0
@@ -57,6 +57,48 @@ last_fits shape port tag (r ∷ rs) earlier all before =
 nothing_fits : (shape : Shape) → HasBlock shape None
 nothing_fits shape x e = absurd (none-some x e)
 
+-- so does each of these
+abbrev HaveBlocks : Shape → List ℕ → Type 0
+HaveBlocks shape addresses = AllByRecursion (λ address. block_of shape address < 0x1_0000_0000) addresses
+
+none_dropped : (shape : Shape) (waiting : List ℕ) → HaveBlocks shape waiting → HaveBlocks shape (drop 1 waiting)
+none_dropped shape [] all = tt
+none_dropped shape (address ∷ waiting) all = all.1
+
+one_more : (shape : Shape) (request : Option ℕ) (waiting : List ℕ) → HasBlock shape request → HaveBlocks shape waiting
+    → HaveBlocks shape (waiting ++ option_to_list request)
+one_more shape None [] fits all = tt
+one_more shape (Some address) [] fits all = (fits address refl, tt)
+one_more shape request (first ∷ waiting) fits all = (all.0, one_more shape request waiting fits all.1)
+
+if_accepts : (shape : Shape) (b : Bool) (taken longer : List ℕ) → HaveBlocks shape taken → HaveBlocks shape longer
+    → HaveBlocks shape (if b then taken else longer)
+if_accepts shape true taken longer short long = short
+if_accepts shape false taken longer short long = long
+
+waiting_fit : (shape : Shape) (port tag : ℕ) (rs : List Record) (before : List ℕ) → AllByRecursion (Fits shape) rs
+    → HaveBlocks shape before → HaveBlocks shape (fold (waits_after port tag) before rs)
+waiting_fit shape port tag [] before all have = have
+waiting_fit shape port tag (r ∷ rs) before all have =
+    waiting_fit shape port tag rs (waits_after port tag before r) all.1
+    (if_accepts shape (accepts port tag r.event) (drop 1 before)
+    (before ++ option_to_list (address_by port tag r.log r.event None)) (none_dropped shape before have)
+    (one_more shape (address_by port tag r.log r.event None) before
+    (asked_fits shape r.bank port tag r.log r.event None all.0.event (nothing_fits shape)) have))
+
+first_fits : (shape : Shape) (waiting : List ℕ) (last : Option ℕ) → HaveBlocks shape waiting → HasBlock shape last
+    → HasBlock shape (first_or waiting last)
+first_fits shape [] last all fits = fits
+first_fits shape (address ∷ waiting) last all fits =
+    λ x e. subst (λ y. block_of shape y < 0x1_0000_0000) (same_Some address x e) all.0
+
+named_fits : (shape : Shape) (before : List Record) (port tag : ℕ) → AllByRecursion (Fits shape) before
+    → HasBlock shape (request_address before port tag)
+named_fits shape before port tag all =
+    first_fits shape (waiting before port tag) (last_address before port tag)
+    (waiting_fit shape port tag before [] all tt)
+    (last_fits shape port tag before None all (nothing_fits shape))
+
 pub requested_fits : (shape : Shape) (bank log : ℕ) (before : List Record) (event : Event) →
     AllByRecursion (Fits shape) before
     → FitsEvent shape.banks shape.block shape.factor bank event → HasBlock shape (requested before log event)
@@ -64,14 +106,10 @@ requested_fits shape bank log before (events.Issue op t size address bytes) all 
     λ x e. subst (λ y. block_of shape y < 0x1_0000_0000) (same_Some address x e) fits.block_fits
 requested_fits shape bank log before (events.Reply tag size bytes) all fits =
     last_fits shape log tag before None all (nothing_fits shape)
-requested_fits shape bank log before (events.Hit port tag) all fits =
-    last_fits shape port tag before None all (nothing_fits shape)
-requested_fits shape bank log before (events.Primary port tag register) all fits =
-    last_fits shape port tag before None all (nothing_fits shape)
-requested_fits shape bank log before (events.Merge port tag register) all fits =
-    last_fits shape port tag before None all (nothing_fits shape)
-requested_fits shape bank log before (events.Stall port tag) all fits =
-    last_fits shape port tag before None all (nothing_fits shape)
+requested_fits shape bank log before (events.Hit port tag) all fits = named_fits shape before port tag all
+requested_fits shape bank log before (events.Primary port tag register) all fits = named_fits shape before port tag all
+requested_fits shape bank log before (events.Merge port tag register) all fits = named_fits shape before port tag all
+requested_fits shape bank log before (events.Stall port tag) all fits = named_fits shape before port tag all
 requested_fits shape bank log before (events.Fill1 block bytes) all fits = nothing_fits shape
 requested_fits shape bank log before (events.Evict1 block mask bytes) all fits = nothing_fits shape
 requested_fits shape bank log before (events.SecondHit block) all fits = nothing_fits shape

@@ -35,7 +35,7 @@ pub struct Broken {
     /// The address of each byte that it has to carry, where the rule asks for other masks.
     pub due_addresses: Vec<u64>,
     /// The blocks that it names, as the bank has them before it: its own, those of its second-level block, or that
-    /// of the last request with its port and tag.
+    /// of the oldest request with its port and tag that waits, of a reply of the last one.
     pub blocks: Vec<NamedBlock>,
 }
 
@@ -95,7 +95,7 @@ pub fn first_broken(
         match step.apply(item) {
             Ok(()) => {}
             Err(BankFault::Rule(rule)) => {
-                let request = requested(records, &places[..i], item);
+                let request = requested(alloc, records, &places[..i], item)?;
                 let broken = told(alloc, &step, shape, rule, request, item)?;
                 return Ok(Some(broken));
             }

@@ -18,3 +18,7 @@ grouped a b c d e = append_assoc (a ++ b ++ c) d e ∙ append_assoc (a ++ b) c (
 
 pub grouped_six : (a b c d e f : List ℕ) → a ++ b ++ c ++ d ++ e ++ f ≡ a ++ (b ++ (c ++ (d ++ (e ++ f))))
 grouped_six a b c d e f = simp append_assoc
+
+pub grouped_seven : (a b c d e f g : List ℕ) →
+    a ++ b ++ c ++ d ++ e ++ f ++ g ≡ a ++ (b ++ (c ++ (d ++ (e ++ (f ++ g)))))
+grouped_seven a b c d e f g = simp append_assoc

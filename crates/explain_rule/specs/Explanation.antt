@@ -63,4 +63,4 @@ pub record IsExplanation (shape : Shape) (memory : List (ℕ × Bytes)) (rs : Li
   pub history : IsHistoryOf shape rs breach most why.history
   pub broken : IsBrokenBy shape memory rs breach why.broken
   pub come_from : ComeFrom shape rs breach why
-  pub taken : why.taken ≡ taken_at rs (rule_of breach) why.limit why.further.items
+  pub taken : why.taken ≡ taken_at shape rs (rule_of breach) why.limit why.origins why.further.items

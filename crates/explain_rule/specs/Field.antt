@@ -10,7 +10,7 @@ use Rattle.lf_rules.specs.declared.rule.Rule.{Rule}
 use Rattle.lf_rules.specs.declared.rule.Rule.TheVariants as rules
 use Rattle.lf_rules.specs.declared.shape.Shape.{Shape}
 use Rattle.explain_history.specs.BankOrder.{records_at}
-use Rattle.explain_history.specs.Request.{last_address}
+use Rattle.explain_replay.specs.Request.{request_address}
 use Rattle.explain_rule.specs.declared.field.Field.{Field}
 use Rattle.explain_rule.specs.declared.field.Field.TheVariants.{Word, Block}
 use Rattle.explain_rule.specs.declared.limit.Limit.{Limit}
@@ -24,7 +24,7 @@ word_at shape address = Word (offset_of shape address / 8)
 -- second-level block: that of the word which the request asks for, or of the block
 abbrev pub field_of : Shape → List Record → List (Option ℕ) → Option Limit → Event → Option Field
 field_of shape rs before (Some (Words words)) (Stall port tag) =
-    option_map (word_at shape) (last_address (records_at rs before) port tag)
+    option_map (word_at shape) (request_address (records_at rs before) port tag)
 field_of shape rs before (Some (Blocks blocks)) (SecondStall block) = Some (Block block)
 field_of shape rs before limit event = None
 

@@ -10,7 +10,7 @@ use Rattle.lf_rules.specs.declared.shape.OrgShape.{OrgShape}
 use Rattle.lf_rules.specs.declared.shape.OrgShape.TheVariants.{Inverted}
 use Rattle.lf_rules.specs.declared.shape.Shape.{Shape}
 use Rattle.lf_rules.specs.Table.{destination}
-use Rattle.explain_origins.specs.declared.accepted.Origin.{Origin}
+use Rattle.explain_origins.specs.declared.standing.Origin.{Origin}
 use Rattle.explain_origins.specs.declared.origins.Origins.{Origins}
 use Rattle.explain_origins.specs.declared.parts.StatePart.TheVariants.{Targets1}
 use Rattle.explain_origins.specs.Events.{is_key}

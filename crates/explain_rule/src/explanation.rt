@@ -50,7 +50,7 @@ pub struct Explanation {
     pub limit: Option<Limit>,
     /// Where a stall waits for no reason, the register that is free.
     pub free: Option<u32>,
-    /// Where it waits for no reason and a register holds its block, that register and how many targets it has.
+    /// The register that a miss names in vain, or that holds the block of a stall which waits for no reason.
     pub taken: Option<Taken>,
     /// Where its field of that register is free, the field.
     pub field: Option<Field>,
@@ -94,10 +94,10 @@ pub fn explain(
     let limit = limit_at(shape, records, rule, &broken, history.place);
     let place = history.place;
     let free = free_at(alloc, shape, records, &before, rule, limit, &origins, place)?;
-    let field = field_at(shape, records, &before, rule, limit, place);
+    let field = field_at(alloc, shape, records, &before, rule, limit, place)?;
     let wanted = wanted_at(alloc, shape, records, &before, rule, &broken, place)?;
     let further = further_at(alloc, shape, records, &before, breach, &broken, free, place)?;
-    let taken = taken_at(records, rule, limit, &further);
+    let taken = taken_at(shape, records, rule, limit, &origins, &further);
     Ok(Explanation {
         rule,
         limit,

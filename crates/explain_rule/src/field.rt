@@ -1,14 +1,16 @@
 //! Which field of the register is free that holds the block of a needless stall.
 
-ghost use Rattle.std.specs.Prelude.{◌≡◌, ◌<◌, Some};
+ghost use Rattle.std.specs.Prelude.{◌≡◌, ◌<◌, Some, IfOk};
 ghost use Rattle.lf_rules.specs.InRange.{IsShape};
 ghost use Rattle.explain_history.specs.Touching.{record_at};
 ghost use Rattle.explain_rule.specs.Field.{word_at, field_of, field_at, field_line, field_text};
 
 use crate::limit::Limit;
-use explain_history::{last_address, record_at, room};
+use explain_history::{record_at, room};
+use explain_replay::request_address;
 use lf_codec::Packed;
-use lf_rules::{Event, Rule, Shape};
+use lf_rules::{Event, NoMemory, Rule, Shape};
+use std::alloc::Global;
 use std::fmt;
 
 /// A field of an implicit register.
@@ -31,44 +33,51 @@ fn word_at(shape: &Shape, address: u64) -> Field
 /// The field that the target of a stall needs, where a register has one for each word, or for each block of a
 /// second-level block.
 fn field_of(
+    alloc: Global,
     shape: &Shape,
     records: &Packed,
     before: &[Option<usize>],
     limit: Option<Limit>,
     event: &Event,
-) -> Option<Field>
+) -> Result<Option<Field>, NoMemory>
     requires { IsShape shape.now }
-    ensures { result ≡ field_of shape.now records.now.records before.now limit event.now }
+    ensures { IfOk result (λ field.
+        field ≡ field_of shape.now records.now.records before.now limit event.now) }
 {
     match (limit, event) {
         (Some(Limit::Words(_)), Event::Stall { port, tag }) => {
-            let address = last_address(records, before, *port, *tag)?;
-            Some(word_at(shape, address))
+            match request_address(alloc, records, before, *port, *tag)? {
+                Some(address) => Ok(Some(word_at(shape, address))),
+                None => Ok(None),
+            }
         }
-        (Some(Limit::Blocks(_)), Event::SecondStall { block }) => Some(Field::Block(*block)),
-        _ => None,
+        (Some(Limit::Blocks(_)), Event::SecondStall { block }) => Ok(Some(Field::Block(*block))),
+        _ => Ok(None),
     }
 }
 
 /// The same of the record at a place, where its stall is needless: the field is free.
 pub(crate) fn field_at(
+    alloc: Global,
     shape: &Shape,
     records: &Packed,
     before: &[Option<usize>],
     rule: Rule,
     limit: Option<Limit>,
     place: Option<usize>,
-) -> Option<Field>
+) -> Result<Option<Field>, NoMemory>
     requires { IsShape shape.now }
-    ensures { result ≡ field_at shape.now records.now.records before.now rule limit
-        (record_at records.now.records place) }
+    ensures { IfOk result (λ field. field ≡ field_at shape.now records.now.records before.now rule limit
+        (record_at records.now.records place)) }
 {
     if !matches!(rule, Rule::NeedlessStall) {
-        return None;
+        return Ok(None);
     }
     let mut room = room();
-    let item = record_at(records, place, &mut room)?;
-    field_of(shape, records, before, limit, &item.event)
+    match record_at(records, place, &mut room) {
+        Some(item) => field_of(alloc, shape, records, before, limit, &item.event),
+        None => Ok(None),
+    }
 }
 
 /// The field that is free, as a line of its own.

@@ -1,4 +1,4 @@
-use Rattle.std.proofs.Common.{◌≡◌, ◌<◌, length, drop, sym, ap, ◌∙◌, arith}
+use Rattle.std.proofs.Common.{◌<◌, length, sym, ap, ◌∙◌, arith}
 use Rattle.std.proofs.lemmas.List.{drop_all}
 use Rattle.explain_origins.specs.Further.{first_from, is_later_request}
 use Rattle.explain_origins.proofs.FurtherLemmas.{no_record, first_here, first_later}

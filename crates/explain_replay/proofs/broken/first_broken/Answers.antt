@@ -68,8 +68,8 @@ told-requires-clause-request c =
     let here : record_at rs (get_or places i None) ≡ Some item = c.in-Some.ensures in
     let fits = (subst (λ (xs : List Record). AllByRecursion (Fits shape) xs)
     (left_from rs places i (Some item) lt here) c.loop-i.invariant.fit).0 in
-    let named : c.requested-request.result ≡ requested (records_at rs (take i places)) item.log item.event =
-    c.requested-request.ensures ∙ ap (λ n. requested (records_at rs (take n places)) item.log item.event)
+    let named : c.in_ok-request-in-Err-Rule.request ≡ requested (records_at rs (take i places)) item.log item.event =
+    c.in_ok-request-in-Err-Rule.ensures ∙ ap (λ n. requested (records_at rs (take n places)) item.log item.event)
     (omega arith) in
     subst (HasBlock shape) (sym named)
     (requested_fits shape item.bank item.log (records_at rs (take i places)) item.event
@@ -95,8 +95,8 @@ returns-in-Err-Rule c =
     let stands : IsStepAfter c.apply.new.self shape memory c.args.bank before
     = subst (λ (s : StepView). IsStepAfter s shape memory c.args.bank before) (sym c.in-Err-Rule.ensures.unchanged)
     c.loop-i.invariant.stands in
-    let named : c.requested-request.result ≡ requested before item.log item.event =
-    c.requested-request.ensures ∙ ap (λ n. requested (records_at rs (take n places)) item.log item.event)
+    let named : c.in_ok-request-in-Err-Rule.request ≡ requested before item.log item.event =
+    c.in_ok-request-in-Err-Rule.ensures ∙ ap (λ n. requested (records_at rs (take n places)) item.log item.event)
     (omega arith) in
     let told : IsTold broken rule (requested before item.log item.event) item shape now =
     subst (λ (request : Option ℕ). IsTold broken rule request item shape now) named

@@ -1,14 +1,5 @@
-use Rattle.std.proofs.Common.{◌+◌, ◌*◌, List, Option, None, length, get_or, ap, ◌∙◌, arith}
-use Rattle.std.proofs.lemmas.List.{get_or-replicate, length-replicate}
-use Rattle.explain_origins.specs.declared.requests.AcceptedRequest.{AcceptedRequest}
+use mathlib.Core.Path.{fun_ext}
 use Rattle.explain_origins.proofs.requests.Requests.new.Goals as goal
 
 pub returns : goal.returns
-returns c = λ shape.
-    let items = c.in_ok-latest.ensures in
-    record {
-      len = ap length items ∙ length-replicate {A = Option AcceptedRequest} 65536 None;
-      latest = λ port tag port_fits tag_fits.
-          ap (λ (latest : List (Option AcceptedRequest)). get_or latest (port * 256 + tag) None) items
-          ∙ get_or-replicate 65536 (port * 256 + tag) None None (omega (arith, port_fits, tag_fits));
-    }
+returns c = fun_ext c.in_ok-queues.ensures.empty

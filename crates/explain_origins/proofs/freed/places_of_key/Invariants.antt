@@ -1,8 +1,0 @@
-use Rattle.std.proofs.Common.{◌≡◌, ◌++◌, drop}
-use Rattle.std.specs.List.{flat_map}
-use Rattle.explain_origins.specs.Freed.{place_if}
-use Rattle.explain_origins.proofs.freed.places_of_key.Given as goal
-
-abbrev pub invariant-loop-one : goal.invariant-loop-one
-invariant-loop-one l =
-    l.places.items ++ flat_map (place_if l.key) (drop l.one-index l.kept) ≡ flat_map (place_if l.key) l.kept
