@@ -11,10 +11,12 @@ use Rattle.explain_history.specs.Waiting.{waiting_request}
 use Rattle.explain_lines.specs.Lines.{line_at, lines_text}
 use Rattle.explain_lines.specs.Marks.{Beside, besides, besides_of}
 use Rattle.explain_origins.specs.declared.origins.Origins.{Origins}
+use Rattle.explain_origins.specs.declared.standing.Origin.{Origin}
 use Rattle.explain_origins.specs.declared.parts.StatePart.{StatePart}
 use Rattle.explain_origins.specs.declared.parts.StatePart.TheVariants as parts
 use Rattle.explain_origins.specs.Further.{AreOf}
 use Rattle.explain_origins.specs.Origins.{steps, standing}
+use Rattle.explain_origins.specs.Requests.{none_waits}
 use Rattle.explain_origins.specs.Text.{origins_text}
 use Rattle.lf_logs.specs.declared.incomplete.Incomplete.{Incomplete}
 use Rattle.lf_logs.specs.Incomplete.{IsFirstIncomplete}
@@ -28,21 +30,22 @@ use Rattle.explain_why.specs.declared.not_complete.NotComplete.{NotComplete}
 abbrev pub all_places : List Record → List (Option ℕ)
 all_places rs = map Some (range_with_len 0 (length rs))
 
--- the first of these places, where it is one of a record, and otherwise the other one
-abbrev pub first_or : List Record → ℕ → List ℕ → ℕ
+-- the place of the first of these, where it is one of a record, and otherwise the other one
+abbrev pub first_or : List Record → ℕ → List Origin → ℕ
 first_or rs other [] = other
-first_or rs other (place ∷ places) = if nat_lt place (length rs) then place else other
+first_or rs other (request ∷ waiting) = if nat_lt request.place (length rs) then request.place else other
 
 -- the place of the first request of the trace that has no reply, where this one has none
 abbrev pub oldest_of : Shape → List Record → ℕ → ℕ
-oldest_of shape rs place = first_or rs place (standing shape parts.Unreplied (steps shape [] rs (all_places rs)))
+oldest_of shape rs place =
+    first_or rs place (standing shape parts.Unreplied (steps shape none_waits rs (all_places rs)))
 
 -- ---- what a bank has at the end
 
 -- what is told of a bank: its registers with their targets, the blocks that level one asked for, those that level two
--- looked up, and the last events of level two and of the bank
+-- supplied, and the last events of level two and of the bank
 abbrev pub parts_at_end : List StatePart
-parts_at_end = parts.Held1 ∷ parts.Held2 ∷ parts.Asked ∷ parts.LookedUp ∷ parts.LastOfLevelTwo ∷ parts.LastOfBank ∷ []
+parts_at_end = parts.Held1 ∷ parts.Held2 ∷ parts.Asked ∷ parts.Supplied ∷ parts.LastOfLevelTwo ∷ parts.LastOfBank ∷ []
 
 -- They are of these parts, after all records of the bank, in the order of their numbers.
 abbrev pub IsStateAtEnd : Shape → List Record → ℕ → List Origins → Type 0

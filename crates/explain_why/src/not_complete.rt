@@ -12,7 +12,7 @@ use crate::why::Asked;
 use crate::{Packing, packed_in};
 use explain_history::{last_at_request, places_in_order, waiting_request};
 use explain_lines::{Listing, Marks, RecordLine, RecordLines, marks_of};
-use explain_origins::{Origins, OriginsText, StatePart, origins_of_all, places_standing};
+use explain_origins::{Origin, Origins, OriginsText, StatePart, origins_of_all, origins_standing};
 use lf_codec::Packed;
 use lf_rules::{NoMemory, Shape};
 use lf_verdict::Incomplete;
@@ -56,14 +56,14 @@ fn all_places(alloc: Global, records: &Packed) -> Result<Vec<Option<usize>>, NoM
     Ok(places)
 }
 
-/// The first of these places, where it is one of a record, and otherwise the other one.
-fn first_or(records: &Packed, other: usize, places: &[usize]) -> usize
+/// The place of the first of these, where it is one of a record, and otherwise the other one.
+fn first_or(records: &Packed, other: usize, waiting: &[Origin]) -> usize
     requires { other < length records.now.records }
-    ensures first { result ≡ first_or records.now.records other places.now }
+    ensures first { result ≡ first_or records.now.records other waiting.now }
     ensures inside { result < length records.now.records }
 {
-    match places.first() {
-        Some(place) if *place < records.len() => *place,
+    match waiting.first() {
+        Some(request) if request.place < records.len() => request.place,
         _ => other,
     }
 }
@@ -81,12 +81,12 @@ fn oldest_request(
     ensures inside { IfOk result (λ oldest. oldest < length records.now.records) }
 {
     let places = all_places(alloc, records)?;
-    let waiting = places_standing(alloc, shape, records, &places, StatePart::Unreplied)?;
+    let waiting = origins_standing(alloc, shape, records, &places, StatePart::Unreplied)?;
     Ok(first_or(records, place, &waiting))
 }
 
 /// What the bank has at the end: its registers with their targets, the blocks that level one asked for, those that
-/// level two looked up, and the last events.
+/// level two supplied, and the last events.
 fn state_at_end(
     alloc: Global,
     shape: &Shape,
@@ -101,7 +101,7 @@ fn state_at_end(
         StatePart::Held1,
         StatePart::Held2,
         StatePart::Asked,
-        StatePart::LookedUp,
+        StatePart::Supplied,
         StatePart::LastOfLevelTwo,
         StatePart::LastOfBank,
     ];

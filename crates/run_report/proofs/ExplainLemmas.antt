@@ -10,12 +10,11 @@ use Rattle.lf_verdict.specs.declared.answer.Refusal.{Refusal}
 use Rattle.lf_verdict.specs.declared.answer.Refusal.TheVariants as refusals
 use Rattle.lf_verdict.specs.declared.session.conclusion.Conclusion.{Conclusion}
 use Rattle.lf_verdict.specs.Conclusion.{IsConclusion}
+use Rattle.lf_verdict.specs.Final.{IsToldFirst}
 use Rattle.lf_verdict.specs.Incomplete.{IsIncompleteFor}
 use Rattle.lf_verdict.specs.Outcome.{IsDecidedOutcome, IsOutcomeOf}
-use Rattle.explain_why.specs.NotLegal.{IsEarliestIf}
 use Rattle.explain_why.specs.declared.why.Why.{Why}
 use Rattle.explain_why.specs.Why.{is_told_of_refusal, is_told, IsIncompleteIf, IsJudgement, IsWhy, why_text}
-use Rattle.explain_why.proofs.Earliest.{earliest_of}
 use Rattle.run_engine.specs.Needs.{bytes_needs}
 use Rattle.run_report.specs.Explain.{Times, told_if, headline_text, TellsBehindLine, IsToldOf, IsExplained}
 
@@ -70,19 +69,19 @@ pub judgement : (complete : Bool) (shape : Shape) (bytes : List ℕ) (c : Conclu
     → IsJudgement shape bytes c.outcome c.broken (told_if complete c.incomplete)
 judgement complete shape bytes c is same = record {
   outcome = same_or shape (λ b. IsOutcomeOf shape b c.outcome) c.fed.bytes bytes c.outcome same is.outcome;
-  is_earliest = same_or shape (λ b. IsEarliestIf shape b c.broken) c.fed.bytes bytes c.outcome same
-      (λ on. earliest_of shape c.fed.bytes c.broken is.earliest (is.none on refl));
+  is_earliest = same_or shape (λ b. IsToldFirst shape b c.broken) c.fed.bytes bytes c.outcome same
+      (λ on. record { earliest = is.earliest; none = is.none_so_far on refl });
   is_incomplete = incomplete_at complete shape c.fed.bytes bytes c.outcome c.incomplete same is.incomplete;
 }
 
-module _ {E : Type 0} (shape : Shape) (time : Times) (most : ℕ) (complete first : Bool) (c : Conclusion)
-    (bytes : List ℕ) (found : Option Incomplete) (why : Why) where
+module _ {E : Type 0} (config : List ℕ) (shape : Shape) (time : Times) (most : ℕ) (complete first : Bool)
+    (c : Conclusion) (bytes : List ℕ) (found : Option Incomplete) (why : Why) where
   -- The text that has the line and behind it why is due.
   pub told_behind : (line : List ℕ) (r : Result (String Global) E) → found ≡ told_if complete c.incomplete
       → is_told c.outcome ≡ true → IsWhy shape bytes time most first c.outcome c.broken found why
       → (IsDecidedOutcome c.outcome → bytes ≡ c.fed.bytes) → line ≡ headline_text first c.outcome c.broken found
       → IfOk r (λ text. string_bytes text ≡ line ++ 10 ∷ 10 ∷ why_text shape bytes why)
-      → IfOk r (λ text. IsExplained time most complete first (Some shape) c (string_bytes text))
+      → IfOk r (λ text. IsExplained config time most complete first (Some shape) c (string_bytes text))
   told_behind line (Ok text) same told is own line_is text_is =
       subst (λ (t : Bool). IsToldOf shape c.fed.bytes time most first c.outcome c.broken
       (told_if complete c.incomplete) t (string_bytes text)) (sym told)

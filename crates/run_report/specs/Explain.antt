@@ -1,14 +1,19 @@
 -- Why a verdict is what it is.
 use Rattle.std.specs.Prelude.{◌≡◌, ℕ, Bool, true, false, List, ◌∷◌, ◌++◌, codes, Option, Some, None}
 use Rattle.lf_rules.specs.declared.shape.Shape.{Shape}
+use Rattle.lf_config.specs.declared.fault.ConfigFault.{ConfigFault}
 use Rattle.lf_logs.specs.declared.incomplete.Incomplete.{Incomplete}
 use Rattle.lf_logs.specs.Incomplete.{incomplete_text}
 use Rattle.lf_verdict.specs.declared.answer.Outcome.{Outcome}
-use Rattle.lf_verdict.specs.declared.answer.Outcome.TheVariants.{No}
+use Rattle.lf_verdict.specs.declared.answer.Outcome.TheVariants.{No, Refused}
+use Rattle.lf_verdict.specs.declared.answer.Refusal.TheVariants as refusals
 use Rattle.lf_verdict.specs.declared.session.breaking.Broken.{Broken}
 use Rattle.lf_verdict.specs.declared.session.breaking.Broken.TheVariants.{Part}
 use Rattle.lf_verdict.specs.Text.{broken_text}
 use Rattle.lf_verdict.specs.declared.session.conclusion.Conclusion.{Conclusion}
+use Rattle.explain_refusal.specs.declared.stop.TomlFault.{TomlFault}
+use Rattle.explain_refusal.specs.Config.{config_text}
+use Rattle.explain_refusal.specs.Stop.{IsTomlFault}
 use Rattle.explain_why.specs.declared.why.Why.{Why}
 use Rattle.explain_why.specs.Why.{is_told, IsWhy, why_text}
 use Rattle.run_engine.specs.Line.{outcome_text, line_of}
@@ -52,7 +57,19 @@ IsToldOf shape bytes time most first outcome earliest found true text =
     TellsBehindLine shape bytes time most first outcome earliest found text
 IsToldOf shape bytes time most first outcome earliest found false text = text ≡ line_of outcome
 
-abbrev pub IsExplained : Times → ℕ → Bool → Bool → Option Shape → Conclusion → List ℕ → Type 0
-IsExplained time most complete first (Some shape) c text = IsToldOf shape c.fed.bytes time most first c.outcome
+-- The text has the line of the refusal, and after an empty line it tells what is wrong with the configuration.
+pub record TellsConfig (config : List ℕ) (fault : ConfigFault) (text : List ℕ) : Type 0 where
+  pub stop : Option TomlFault
+  pub is_stop : IsTomlFault config stop
+  pub lines : text
+      ≡ outcome_text (Refused (refusals.Config fault)) ++ 10 ∷ 10 ∷ config_text fault stop config
+
+-- Before a trace is asked for, only a configuration is at fault.
+abbrev pub IsRefused : List ℕ → Outcome → List ℕ → Type 0
+IsRefused config (Refused (refusals.Config fault)) text = TellsConfig config fault text
+IsRefused config outcome text = text ≡ line_of outcome
+
+abbrev pub IsExplained : List ℕ → Times → ℕ → Bool → Bool → Option Shape → Conclusion → List ℕ → Type 0
+IsExplained config time most complete first (Some shape) c text = IsToldOf shape c.fed.bytes time most first c.outcome
     c.broken (told_if complete c.incomplete) (is_told c.outcome) text
-IsExplained time most complete first None c text = text ≡ line_of c.outcome
+IsExplained config time most complete first None c text = IsRefused config c.outcome text

@@ -70,7 +70,8 @@ pub fn run_cover_data<T: AllocGlobal + Threads + Sync + Send + Copy + 'static, R
     run_for(rt, reader, writer, config, 1, &ask, turns)
 }
 
-/// Runs with one worker, and writes the line of the verdict and why it is what it is, as `Explain` says.
+/// Runs with one worker, and writes the line of the verdict and why it is what it is, as `Explain` says. If memory runs
+/// out, also in telling what is wrong with a configuration, it writes that.
 pub fn run_explain<T: AllocGlobal + Threads + Sync + Send + Copy + 'static, R: Read, W: Write>(
     rt: &T,
     reader: &mut Counted<R>,
@@ -85,11 +86,14 @@ pub fn run_explain<T: AllocGlobal + Threads + Sync + Send + Copy + 'static, R: R
     ensures unread { ¬ IsAsked config.now 1 → reader.new ≡ reader.old }
     ensures run { IsRunFor (account_of R.remaining reader.old) (account_of R.remaining reader.new)
         (account_of W.contents writer.old) (account_of W.contents writer.new) config.now 1
-        (bytes_needs true) (IsExplained (told_by asked.now.times) asked.now.most asked.now.complete
+        (bytes_needs true) (IsExplained config.now (told_by asked.now.times) asked.now.most asked.now.complete
         asked.now.first)
         not_read_line turns result }
 {
-    let ask = Explain { asked: *asked };
+    let ask = Explain {
+        asked: *asked,
+        config,
+    };
     run_for(rt, reader, writer, config, 1, &ask, turns)
 }
 

@@ -1,15 +1,21 @@
 //! Why the verdict is what it is.
 
 ghost use Rattle.std.specs.Prelude.{◌≡◌, ◌∷◌, ◌++◌, IfOk, string_bytes};
+ghost use Rattle.lf_verdict.specs.declared.answer.Outcome.TheVariants.{Refused};
+ghost use Rattle.lf_verdict.specs.declared.answer.Refusal.TheVariants.{Config};
 ghost use Rattle.explain_lines.specs.Marks.{told_by};
+ghost use Rattle.explain_refusal.specs.Config.{config_text};
 ghost use Rattle.explain_why.specs.Why.{why_text};
-ghost use Rattle.run_report.specs.Explain.{told_if};
+ghost use Rattle.run_engine.specs.Line.{outcome_text};
+ghost use Rattle.run_report.specs.Explain.{told_if, TellsConfig, IsRefused};
 ghost use Rattle.run_report.specs.Headline.{line_text};
 
 use crate::headline::{Headline, headline_of};
+use explain_refusal::{ConfigRefusal, toml_fault};
 use explain_why::{Asked, Judgement, WhyText, why_of};
+use lf_config::ConfigFault;
 use lf_rules::{NoMemory, Shape};
-use lf_verdict::{Conclusion, Incomplete};
+use lf_verdict::{Conclusion, Incomplete, Outcome, Refusal};
 use run_engine::{Ask, Needs, no_memory_line, not_read_line, outcome_line};
 use std::alloc::Global;
 
@@ -24,13 +30,16 @@ use std::alloc::Global;
 ///   request has no reply, the first such request and the last records of its bank at its block, behind the line of
 ///   that request in the place of the verdict's;
 /// - of bytes that are no trace, the field that fails, and what it may have; and what broke first before it;
-/// - of a trace of another hierarchy, the numbers that differ.
+/// - of a trace of another hierarchy, the numbers that differ;
+/// - of a text that is no configuration, what its key may have, or where the text stops to be TOML.
 ///
-/// A record is told with its time where there is one. Of a refused configuration nothing is told. Where it is asked
-/// for, of a no what broke first is told alone, behind its own line.
+/// A record is told with its time where there is one. Where it is asked for, of a no what broke first is told alone,
+/// behind its own line.
 #[derive(Clone, Copy)]
 pub struct Explain<'a> {
     pub asked: Asked<'a>,
+    /// The text of the configuration.
+    pub config: &'a str,
 }
 
 /// The request without a reply that is told, where complete traces are asked for.
@@ -48,6 +57,41 @@ fn behind_line(alloc: Global, line: Headline<'_>, why: WhyText<'_>) -> Result<St
     Ok(format!(in alloc; "{line}\n\n{why}")?)
 }
 
+/// The line of a configuration's fault, and after an empty line why.
+fn behind_fault(alloc: Global, why: ConfigRefusal<'_>) -> Result<String, NoMemory>
+    ensures { IfOk result (λ told. string_bytes told
+        ≡ outcome_text (Refused (Config why.entry.fault.now))
+        ++ 10 ∷ 10 ∷ config_text why.entry.fault.now why.entry.stop.now why.entry.text.now) }
+{
+    let fault = why.fault;
+    Ok(format!(in alloc; "refused config {fault}\n\n{why}")?)
+}
+
+/// What is told of a configuration that is refused.
+fn fault_text(alloc: Global, fault: &ConfigFault, text: &str) -> Result<String, NoMemory>
+    ensures { IfOk result (λ told. TellsConfig text.now fault.now (string_bytes told)) }
+{
+    let stop = &toml_fault(alloc, text)?;
+    behind_fault(alloc, ConfigRefusal { text, fault, stop })
+}
+
+/// What is told of a refusal that comes before the trace is asked for.
+fn refused_text(alloc: Global, outcome: &Outcome, text: &str) -> Result<String, NoMemory>
+    ensures { IfOk result (λ told. IsRefused text.now outcome.now (string_bytes told)) }
+{
+    let Outcome::Refused(refusal) = outcome else {
+        return outcome_line(alloc, outcome);
+    };
+    match refusal {
+        Refusal::Config(fault) => fault_text(alloc, fault, text),
+        Refusal::Workers(_)
+        | Refusal::Format(_)
+        | Refusal::Header(_)
+        | Refusal::Memory
+        | Refusal::Thread => outcome_line(alloc, outcome),
+    }
+}
+
 impl Ask for Explain<'_> {
     ghost use Rattle.run_engine.specs.Line.{not_read_line};
     ghost use Rattle.run_engine.specs.Needs.{bytes_needs};
@@ -56,7 +100,7 @@ impl Ask for Explain<'_> {
 
     ghost needs_of = { λ _. bytes_needs true };
 
-    ghost is_due = { λ ask shape conclusion text. IsExplained (told_by ask.asked.times) ask.asked.most
+    ghost is_due = { λ ask shape conclusion text. IsExplained ask.config.now (told_by ask.asked.times) ask.asked.most
         ask.asked.complete ask.asked.first shape conclusion text };
 
     ghost lost = { not_read_line };
@@ -92,7 +136,7 @@ impl Ask for Explain<'_> {
     }
 
     fn refused(&self, alloc: Global, conclusion: &Conclusion) -> Result<String, NoMemory> {
-        outcome_line(alloc, &conclusion.outcome)
+        refused_text(alloc, &conclusion.outcome, self.config)
     }
 
     fn no_memory(&self) -> &'static [u8] {

@@ -23,6 +23,6 @@ returns-in-Some c =
     let asked = c.args.self.now.asked in
     let has = subst (λ (why : Option Why). HasWhy shape bytes (told_by asked.times) asked.most asked.first
     conclusion.outcome conclusion.broken c.told_if.result why) c.in-Some.is c.in_ok-why.ensures in
-    told_behind shape (told_by asked.times) asked.most asked.complete asked.first conclusion bytes c.told_if.result
+    told_behind c.args.self.now.config.now shape (told_by asked.times) asked.most asked.complete asked.first conclusion bytes c.told_if.result
     c.in-Some.why _ c.behind_line.result c.told_if.ensures has.0 has.1 (c.requires.kept refl)
     c.headline_of-line.ensures c.behind_line.ensures
