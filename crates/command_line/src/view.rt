@@ -18,7 +18,9 @@ request of a legal trace must also have a reply, as check --complete asks.
 For a yes, the records stand in an order of all events that is a legal run:
 the order of the yes, see docs/RULES.md. For a no, each log is in its own
 order, and the records of each bank are in the order of their numbers. They go
-up to the record that breaks a rule, or as far as they can.
+up to the record that breaks a rule, or as far as they can. What broke first,
+see score help watch, is in the waveform too: if it comes later, they go on up
+to it.
 
 The record at place N of the order, from 0, is at N nanoseconds. A port
 has its record (event), with tag and address, how many of its requests have no
@@ -29,15 +31,22 @@ registers of each level are held, how many blocks level one asks level two for
 how many lines of each level are dirty, and for each of the first 64 registers
 of a level the block that it holds (z: none) and how many targets wait in it.
 If a record of a port or of a bank breaks a rule, fault rises at that record,
-and rule is the name of the rule.
+and rule is the name of the rule. If the records end before it, rule is
+no_next_record from the last one on. first_fault and first_rule say the same of
+what broke first. GTKWave has its marker at fault, and marker A at first_fault.
 
-Without --from, the waveform of a no begins 200 records before the one that
-breaks a rule. It has no records after that one, but it ends 32 nanoseconds
-later, so that GTKWave can open there. That of a yes is of the whole trace.
+Without --from, the waveform of a no begins 200 records before the first one
+that is marked. It ends 32 nanoseconds after the last one, so that GTKWave can
+open there. That of a yes is of the whole trace.
 
-With --map FILE, time is the time of each record, and the empty text for a
-record that FILE does not name. FILE is the time map that a recorder wrote
-beside the trace; see score help explain. GTKWave shows time first.
+With --map FILE, each record is at its time: the number in front of the time is
+in nanoseconds, and the order is by these numbers as far as it can be. A record
+whose time is before that of the record before it, or has no number, is two
+picoseconds behind that record. Words stay until the next one of the port or
+bank. time is the time of each record, and
+the empty text for a record that FILE does not name. FILE is the time map that
+a recorder wrote beside the trace; see score help explain. GTKWave shows time
+first.
 
 A TRACE that is a pipe or a FIFO is kept in memory. The order is kept too, a
 byte for each record, and the records that stand in TRACE before their turn.

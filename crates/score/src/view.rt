@@ -13,29 +13,32 @@ use crate::trace::{Trace, size_of_file};
 use command_line::{ViewOptions, Window};
 use explain_lines::Times;
 use lf_rules::{Rule, Shape};
-use lf_verdict::{Conclusion, Fault, Incomplete, Outcome};
+use lf_verdict::{Asked, Broken, Conclusion, Fault, Incomplete, Outcome, PartFault};
 use run_engine::{Counted, InputFault, Judged, Line, Needs, judge, shape_for};
 use std::alloc::AllocError;
 use std::io;
 use std::io::{ErrorKind, Read, Write};
 use std::rt::Files;
 use std::thread::Threads;
-use wave_draw::{Drawing, Sought, ViewFault, order_of_no, view as draw};
-use wave_signals::{Marker, SaveFile, View};
+use wave_draw::{Clock, Drawing, Front, Sought, ViewFault, order_of_no, view as draw};
+use wave_signals::{Marker, SaveFile, View, Why};
 
-/// So many records before the one that breaks a rule are shown, where nothing else is asked for.
+/// So many records before the first one that is marked are shown, where nothing else is asked for.
 const BEFORE: u64 = 200;
 
-/// What the wave shows of a trace of this shape, in which this record breaks a rule. It is the last one.
-fn view_in(window: Window, shape: &Shape, marker: Option<Marker>) -> View {
-    let begin = match marker {
-        Some(marker) => marker.place.saturating_sub(BEFORE),
-        None => 0,
+/// What the wave shows of a trace of this shape, in which these records are marked.
+fn view_in(window: Window, shape: &Shape, marks: Marks) -> View {
+    let Marks { marker, first } = marks;
+    let earlier = match (marker, first) {
+        (Some(marker), Some(first)) => marker.place.min(first.place),
+        (Some(marker), None) => marker.place,
+        _ => 0,
     };
     View {
-        from: window.from.unwrap_or(begin),
+        from: window.from.unwrap_or(earlier.saturating_sub(BEFORE)),
         to: window.to.unwrap_or(u64::MAX),
         marker,
+        first,
         ..View::whole(shape)
     }
 }
@@ -52,75 +55,166 @@ struct Output<'a> {
     clears: bool,
 }
 
-/// Three readers of one trace.
+/// Readers of one trace.
 #[derive(Drop)]
 struct Readers<R> {
     judged: R,
-    searched: R,
+    searched: Searched<R>,
     shown: R,
 }
 
-/// The order in which the records are drawn, and the record at fault.
+/// Those in which the fault that the verdict names is searched, and what broke first.
+#[derive(Drop)]
+struct Searched<R> {
+    named: R,
+    first: R,
+}
+
+/// The records that are marked.
+#[derive(Clone, Copy)]
+struct Marks {
+    marker: Option<Marker>,
+    first: Option<Marker>,
+}
+
+/// The order in which the records are drawn, and those that are marked.
 #[derive(Drop)]
 struct Course {
     logs: Option<Vec<u8>>,
-    marker: Option<Marker>,
+    marks: Marks,
 }
 
-/// The record that a no names, where it breaks a rule, and the rule.
-fn sought_in(fault: &Fault) -> (Sought, Option<Rule>) {
-    match fault {
-        Fault::Port { port, at, rule } => {
-            let sought = Sought::InLog {
-                log: *port,
-                at: *at,
-            };
-            (sought, Some(*rule))
+/// The record of a fault that breaks a rule, and the rule.
+#[derive(Clone, Copy, PartialEq, Eq)]
+struct Breach {
+    sought: Sought,
+    why: Why,
+}
+
+impl Breach {
+    fn of_port(log: u8, at: u32, rule: Rule) -> Breach {
+        Breach {
+            sought: Sought::InLog { log, at },
+            why: Why::Rule(rule),
         }
-        Fault::Bank { bank, number, rule } => {
-            let sought = Sought::InBank {
-                bank: *bank,
-                number: *number,
-            };
-            (sought, Some(*rule))
+    }
+
+    fn of_bank(bank: u8, number: u32, rule: Rule) -> Breach {
+        Breach {
+            sought: Sought::InBank { bank, number },
+            why: Why::Rule(rule),
         }
-        _ => (Sought::Nothing, None),
     }
 }
 
-/// The order of a no, in which the record that it names is the last one.
+/// The record that a no names.
+fn breach_named(fault: &Fault) -> Option<Breach> {
+    match fault {
+        Fault::Port { port, at, rule } => Some(Breach::of_port(*port, *at, *rule)),
+        Fault::Bank { bank, number, rule } => Some(Breach::of_bank(*bank, *number, *rule)),
+        _ => None,
+    }
+}
+
+/// The record that broke a rule first.
+fn breach_first(broken: Option<Broken>) -> Option<Breach> {
+    let Some(Broken::Part { fault, .. }) = broken else {
+        return None;
+    };
+    match fault {
+        PartFault::Port { port, at, rule } => Some(Breach::of_port(port, at, rule)),
+        PartFault::Bank { bank, number, rule } => Some(Breach::of_bank(bank, number, rule)),
+        PartFault::Double { .. } => None,
+    }
+}
+
+/// The order of a trace up to this record, or as far as records can come.
+fn front_to<T: AllocGlobal, R: Read + Drop>(
+    rt: &T,
+    times: &Option<Times>,
+    breach: Option<Breach>,
+    reader: R,
+) -> Result<Front, ViewFault> {
+    let sought = match breach {
+        Some(breach) => breach.sought,
+        None => Sought::Nothing,
+    };
+    let mut reader = Counted::new(reader);
+    order_of_no(rt, &mut reader, times, sought, u32::MAX)
+}
+
+/// The mark of the last record of an order that goes up to this record, where it has one.
+fn mark_of(front: &Front, breach: Option<Breach>) -> Option<Marker> {
+    let place = (front.logs.len() as u64).checked_sub(1)?;
+    let why = match breach {
+        Some(breach) if front.reached => breach.why,
+        _ => Why::Stop,
+    };
+    Some(Marker { place, why })
+}
+
+/// The order of a no, up to the later one of the record that it names and the record that broke a rule first. Both
+/// orders take the records alike, so the shorter one is the beginning of the other.
 fn course_of_no<T: AllocGlobal, R: Read + Drop>(
     rt: &T,
-    fault: &Fault,
-    reader: R,
+    times: &Option<Times>,
+    named: Option<Breach>,
+    broke: Option<Breach>,
+    searched: Searched<R>,
 ) -> Result<Course, ViewFault> {
-    let (sought, rule) = sought_in(fault);
-    let mut reader = Counted::new(reader);
-    let front = order_of_no(rt, &mut reader, sought, u32::MAX)?;
-    let last = (front.logs.len() as u64).saturating_sub(1);
-    let marker = match rule {
-        Some(rule) if front.reached => Some(Marker { place: last, rule }),
-        _ => None,
-    };
-    Ok(Course {
-        logs: Some(front.logs),
+    let front = front_to(rt, times, named, searched.named)?;
+    let marker = mark_of(&front, named);
+    let mut marks = Marks {
         marker,
+        first: None,
+    };
+    let Front { mut logs, reached } = front;
+    if reached && broke == named {
+        marks.first = marker;
+    } else if broke.is_some() && broke != named {
+        let other = front_to(rt, times, broke, searched.first)?;
+        if other.reached {
+            marks.first = mark_of(&other, broke);
+        }
+        if other.reached && other.logs.len() > logs.len() {
+            logs = other.logs;
+        }
+    }
+    Ok(Course {
+        logs: Some(logs),
+        marks,
     })
 }
 
-/// The order of a yes is that of its verdict.
+/// The order of a yes is that of its verdict or, with times, one by them.
 fn course_of<T: AllocGlobal, R: Read + Drop>(
     rt: &T,
+    times: &Option<Times>,
     outcome: &Outcome,
     order: Option<Vec<u8>>,
-    reader: R,
+    broken: Option<Broken>,
+    searched: Searched<R>,
 ) -> Result<Course, ViewFault> {
     if let Outcome::No(fault) = outcome {
-        return course_of_no(rt, fault, reader);
+        return course_of_no(
+            rt,
+            times,
+            breach_named(fault),
+            breach_first(broken),
+            searched,
+        );
     }
+    let logs = if times.is_some() {
+        Some(front_to(rt, times, None, searched.named)?.logs)
+    } else {
+        order
+    };
     Ok(Course {
-        logs: order,
-        marker: None,
+        logs,
+        marks: Marks {
+            marker: None,
+            first: None,
+        },
     })
 }
 
@@ -164,7 +258,7 @@ fn save_text<T: AllocGlobal>(
     shape: &Shape,
 ) -> Result<String, AllocError> {
     let save = SaveFile {
-        times: drawing.times.is_some(),
+        times: &drawing.times,
         view: &drawing.view,
         ports: u8::try_from(shape.ports).unwrap_or(u8::MAX),
         banks: u8::try_from(shape.banks).unwrap_or(u8::MAX),
@@ -211,6 +305,26 @@ where
     }
 }
 
+/// What is drawn of a trace in its order. With the times of a map, the axis is that of the map.
+fn drawing_of<T: AllocGlobal>(
+    rt: &T,
+    window: Window,
+    times: Option<Times>,
+    shape: &Shape,
+    course: Course,
+) -> Result<Drawing, AllocError> {
+    let Course { logs, marks } = course;
+    let times = match (times, &logs) {
+        (Some(times), Some(logs)) => Some(Clock::new(rt.alloc(), times, logs.as_slice())?),
+        _ => None,
+    };
+    Ok(Drawing {
+        view: view_in(window, shape, marks),
+        times,
+        order: logs,
+    })
+}
+
 /// Tells the line of the verdict, or that of a request without a reply.
 fn tell_answer<T: Print + Eprint>(
     rt: &T,
@@ -232,7 +346,7 @@ fn hand_out<T: Print + Eprint + Files + AllocGlobal, R: Read + Drop>(
     shape: &Shape,
     output: Output<'_>,
     conclusion: Conclusion,
-    searched: R,
+    searched: Searched<R>,
     shown: R,
 ) -> io::Result<Ending>
 where
@@ -248,21 +362,20 @@ where
     let Conclusion {
         outcome,
         order,
+        broken,
         incomplete,
         ..
     } = conclusion;
-    let found = course_of(rt, &outcome, order, searched);
+    let found = course_of(rt, &times, &outcome, order, broken, searched);
     if clears {
         clear(rt);
     }
-    let Course { logs, marker } = match found {
+    let course = match found {
         Ok(course) => course,
         Err(why) => return refuse_read(rt, out, why),
     };
-    let drawing = Drawing {
-        view: view_in(window, shape, marker),
-        times,
-        order: logs,
+    let Ok(drawing) = drawing_of(rt, window, times, shape, course) else {
+        return refuse_read(rt, out, ViewFault::Memory);
     };
     let is_part = matches!(&outcome, Outcome::No(_));
     let written = put_wave(rt, out, drawing, is_part, shape, shown);
@@ -292,7 +405,16 @@ where
         shown,
     } = readers;
     let mut reader = Counted::new(judged);
-    let judged = judge(rt, &mut reader, shape, 1, Needs::verdict(true), u32::MAX);
+    let needs = Needs {
+        asked: Asked {
+            ordered: true,
+            watched: true,
+            counted: false,
+        },
+        early: false,
+        bytes: false,
+    };
+    let judged = judge(rt, &mut reader, shape, 1, needs, u32::MAX);
     if output.clears {
         clear(rt);
     }
@@ -316,7 +438,10 @@ where
     if size_of_file(rt, trace).is_some() {
         let readers = Readers {
             judged: reader_by_itself(rt, trace, "judged", on_terminal),
-            searched: reader_by_itself(rt, trace, "searched", on_terminal),
+            searched: Searched {
+                named: reader_by_itself(rt, trace, "searched", on_terminal),
+                first: reader_by_itself(rt, trace, "searched", on_terminal),
+            },
             shown: reader_by_itself(rt, trace, "drawn", on_terminal),
         };
         return view_of(rt, shape, output, readers);
@@ -330,7 +455,10 @@ where
     };
     let readers = Readers {
         judged: kept.as_slice(),
-        searched: kept.as_slice(),
+        searched: Searched {
+            named: kept.as_slice(),
+            first: kept.as_slice(),
+        },
         shown: kept.as_slice(),
     };
     view_of(rt, shape, output, readers)

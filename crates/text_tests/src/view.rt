@@ -21,7 +21,7 @@ fn orders_to_a_record(rt: HostRuntime) -> Result<(), Fail> {
         (Sought::InBank { bank: 0, number: 1 }, &[0, 1][..], true),
     ] {
         let mut reader = Counted::new(&TWO_PORTS[..]);
-        let Ok(front) = order_of_no(&rt, &mut reader, sought, 10) else {
+        let Ok(front) = order_of_no(&rt, &mut reader, &None, sought, 10) else {
             return Err(Fail::from("there is no order"));
         };
         assert_eq!(rt; front.logs.as_slice(), logs);
@@ -41,6 +41,7 @@ const PORTS: View = View {
     block: 8,
     factor: 1,
     marker: None,
+    first: None,
 };
 
 /// What is shown of the load of port 0, and then of that of port 1.

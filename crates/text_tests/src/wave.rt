@@ -4,7 +4,8 @@ use explain_lines::Times;
 use lf_codec::Header;
 use lf_rules::{Event, Level, OrgShape, Record, Rule, Shape};
 use std::test::Fail;
-use wave_signals::{Marker, SaveFile, View, Wave};
+use wave_draw::Clock;
+use wave_signals::{Marker, SaveFile, View, Wave, Why};
 
 const HEADER: Header = Header {
     version: 1,
@@ -15,7 +16,7 @@ const HEADER: Header = Header {
     memory_count: 0,
 };
 
-/// The second and the third record, the third of which is at fault.
+/// The second and the third record. The third is at fault, and the second broke a rule first.
 const VIEW: View = View {
     from: 1,
     to: 2,
@@ -27,19 +28,27 @@ const VIEW: View = View {
     factor: 1,
     marker: Some(Marker {
         place: 2,
-        rule: Rule::NotReady,
+        why: Why::Rule(Rule::NotReady),
+    }),
+    first: Some(Marker {
+        place: 1,
+        why: Why::Rule(Rule::NotHead),
     }),
 };
 
 const SAVE: &str = "\
 [timestart] 1000
 [size] 1600 900
-*-10.5 2000
+*-10.5 2000 1000
 [signals_width] 210
 @28
 score.fault
 @820
 score.rule
+@28
+score.first_fault
+@820
+score.first_rule
 @200
 -port 0
 @820
@@ -129,6 +138,7 @@ fn signals_of_a_shape(rt: HostRuntime) -> Result<(), Fail> {
         block: 8,
         factor: 2,
         marker: None,
+        first: None,
     };
     assert!(rt; View::whole(&SHAPE) == due);
     Ok(())
@@ -154,14 +164,17 @@ const FENCES: View = View {
     block: 8,
     factor: 1,
     marker: None,
+    first: None,
 };
 
 const TIMED: &str = "\
-$timescale 100 ps $end
+$timescale 1 ps $end
 $scope module score $end
 $var string 1 t time $end
 $var wire 1 f fault $end
 $var string 1 r rule $end
+$var wire 1 ff first_fault $end
+$var string 1 fr first_rule $end
 $scope module port0 $end
 $var string 1 p0e event $end
 $var wire 8 p0i tag [7:0] $end
@@ -176,30 +189,33 @@ $var wire 16 p1o outstanding [15:0] $end
 $upscope $end
 $upscope $end
 $enddefinitions $end
-#10
+#0
 $dumpvars
 s t
 0f
 s r
+0ff
+s fr
 s p0e
 b0 p0o
 s p1e
 b0 p1o
 $end
+#1249999
+s p1e
+#1250000
 s1250\\040ns t
 sfence p1e
-#19
-s p1e
-#20
+#1250001
+s p0e
+#1250002
 s t
 sfence p0e
-#29
-s p0e
-#30
+#1250003
+s p1e
+#1250004
 s2\\134\\302\\265s t
 sfence p1e
-#39
-s p1e
 ";
 
 #[test]
@@ -212,7 +228,7 @@ fn times_of_records(rt: HostRuntime) -> Result<(), Fail> {
         banks: 0,
         ..HEADER
     };
-    let times = Some(times);
+    let times = Some(Clock::new(rt.alloc(), times, &[0, 1, 0, 1])?);
     let mut text = String::new(rt.alloc());
     let mut wave = Wave::new(rt.alloc(), FENCES);
     wave.put_head(true, &header, &mut text)?;
@@ -227,7 +243,7 @@ fn times_of_records(rt: HostRuntime) -> Result<(), Fail> {
 #[test]
 fn signals_beside_it(rt: HostRuntime) -> Result<(), Fail> {
     let save = SaveFile {
-        times: false,
+        times: &None,
         view: &VIEW,
         ports: 1,
         banks: 1,

@@ -13,7 +13,7 @@ use Rattle.lf_codec.proofs.Bytes.{read_on-append}
 use Rattle.text_dump.proofs.Order.{Follows, follows, orderly}
 use Rattle.text_dump.proofs.Lengths.{header_cases, count_within}
 use Rattle.text_dump.proofs.Pieces.{all_taken}
-use Rattle.explain_lines.specs.declared.times.Times.{Times}
+use Rattle.wave_order.specs.declared.clock.Clock.{Clock}
 use Rattle.wave_signals.specs.declared.view.View.{View}
 use Rattle.wave_signals.specs.Wave.{Drawn, undrawn, next, next_shown, drawn_after, wave_from}
 use Rattle.wave_draw.specs.declared.drawer.Drawer.{Drawer}
@@ -31,7 +31,7 @@ drawn_after-append : (wave : Drawn) (xs ys : List Record) →
 drawn_after-append wave [] ys = refl
 drawn_after-append wave (x ∷ xs) ys = drawn_after-append (next wave x) xs ys
 
-wave_from-append : (times : Option Times) (wave : Drawn) (xs ys : List Record) → wave_from times wave (xs ++ ys)
+wave_from-append : (times : Option Clock) (wave : Drawn) (xs ys : List Record) → wave_from times wave (xs ++ ys)
     ≡ wave_from times wave xs ++ wave_from times (drawn_after wave xs) ys
 wave_from-append times wave [] ys = refl
 wave_from-append times wave (x ∷ xs) ys =
@@ -52,7 +52,7 @@ pub drawing_same : (drawer : Drawer) (drawing : Drawing) → drawer.wave.view �
     drawer.times ≡ drawing.times → order_of drawer.order ≡ drawing.order → drawing_of drawer ≡ drawing
 drawing_same drawer drawing view times order =
     ap (λ (v : View). record { view = v; times = drawer.times; order = order_of drawer.order }) view
-    ∙ ap (λ (t : Option Times). record { view = drawing.view; times = t; order = order_of drawer.order }) times
+    ∙ ap (λ (t : Option Clock). record { view = drawing.view; times = t; order = order_of drawer.order }) times
     ∙ ap (λ (o : Option (Vec ℕ)). record { view = drawing.view; times = drawing.times; order = o }) order
 
 -- ---- one more piece

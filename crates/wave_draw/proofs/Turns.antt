@@ -8,7 +8,7 @@ use Rattle.std.specs.Global.{Vec}
 use Rattle.std.specs.List.{All}
 use Rattle.lf_rules.specs.declared.event.Record.{Record}
 use Rattle.lf_rules.specs.Run.{of_log, Interleaves}
-use Rattle.explain_lines.specs.declared.times.Times.{Times}
+use Rattle.wave_order.specs.declared.clock.Clock.{Clock}
 use Rattle.wave_signals.specs.Wave.{Drawn, next, next_shown, drawn_after, wave_from}
 use Rattle.wave_draw.specs.declared.queues.Queues.{Queues}
 use Rattle.wave_draw.specs.declared.order.Order.{Order}
@@ -47,7 +47,7 @@ no_first [] ys none = refl
 no_first (x ∷ xs) ys none = cc
 
 -- no record has a turn
-module _ (times : Option Times) (order : Order) (wave : Drawn) (text : List ℕ) (records more : List Record)
+module _ (times : Option Clock) (order : Order) (wave : Drawn) (text : List ℕ) (records more : List Record)
     (come : HasCome order records) (past : IsPast order) where
   no_place : drop (length (in_order order.logs.items records)) order.logs.items ≡ []
   no_place = drop_of_length-le order.logs.items (omega (arith, come.next, past.last))
@@ -135,7 +135,7 @@ module _ (old : Order) (records : List Record) where
 
 -- ---- all turns that are due
 
-module _ (times : Option Times) (old mid new : Order) (wave wave' : Drawn) (text text' : List ℕ)
+module _ (times : Option Clock) (old mid new : Order) (wave wave' : Drawn) (text text' : List ℕ)
     (records more : List Record) (come : HasCome old records) (logs : mid.logs ≡ old.logs) (next : mid.next ≡ old.next)
     (same : new.logs ≡ mid.logs)
     (draws : DrawsDue times mid new wave wave' text text' (left_by old.logs.items records ++ more)) where
@@ -180,7 +180,7 @@ module _ (times : Option Times) (old mid new : Order) (wave wave' : Drawn) (text
 -- ---- one turn after another
 
 -- What was drawn, and what is due of those that are left, are what was due of these.
-pub record IsOnTheWay (times : Option Times) (old now : Order) (wave wave' : Drawn) (text text' : List ℕ)
+pub record IsOnTheWay (times : Option Clock) (old now : Order) (wave wave' : Drawn) (text text' : List ℕ)
     (records : List Record) : Type 0 where
   pub left : List Record
   pub waiting : Interleaves (queued now.waiting) left
@@ -190,7 +190,7 @@ pub record IsOnTheWay (times : Option Times) (old now : Order) (wave wave' : Dra
       ≡ text ++ wave_from times wave (in_order (rest_of old) records)
   pub drawn : drawn_after wave' (in_order (rest_of now) left) ≡ drawn_after wave (in_order (rest_of old) records)
 
-module _ (times : Option Times) (old now new : Order) (wave wave' : Drawn) (text text' : List ℕ)
+module _ (times : Option Clock) (old now new : Order) (wave wave' : Drawn) (text text' : List ℕ)
     (records : List Record) where
   pub sets_out : Interleaves (queued old.waiting) records → IsOnTheWay times old old wave wave text text records
   sets_out are = record {

@@ -1,5 +1,6 @@
 -- The order of a no, of a trace that is read.
-use Rattle.std.specs.Prelude.{◌≡◌, ℕ, ◌<◌, ◌≤◌, ◌↔◌, List, [], Result, IfOk, IfErr, IsErrOf}
+use Rattle.std.specs.Prelude.{◌≡◌, ℕ, ◌<◌, ◌≤◌, ◌↔◌, List, [], Option, Result, IfOk, IfErr, IsErrOf}
+use Rattle.explain_lines.specs.declared.times.Times.{Times}
 use Rattle.lf_codec.specs.Reader.{HasRead}
 use Rattle.lf_codec.specs.Reading.{reading_of}
 use Rattle.run_stream.specs.Account.{Account}
@@ -21,10 +22,10 @@ pub record IsSplit (split : Split) (bytes : List ℕ) : Type 0 where
   pub left : HasLeft split.left [] (reading_of bytes).records
 
 -- The order was made of all bytes that were to be read, from readers at two moments.
-pub record IsOrdered (sought : Sought) (old new : Account) (front : Front) : Type 0 where
+pub record IsOrdered (times : Option Times) (sought : Sought) (old new : Account) (front : Front) : Type 0 where
   pub bytes : List ℕ
   pub all : IsAllRead HasFault piece_len old new bytes
-  pub order : IsOrderTo sought (reading_of bytes).records front.logs.items front.reached
+  pub order : IsOrderTo times sought (reading_of bytes).records front.logs.items front.reached
 
 -- The reads answered these bytes, in which no fault stands.
 pub record IsReadSoFar (old new : Account) : Type 0 where
@@ -40,9 +41,10 @@ IsOrderingStopped old new Write = ⊥
 IsOrderingStopped old new Order = ⊥
 
 -- The order of a no, within so many reads.
-pub record IsOrdering (sought : Sought) (old new : Account) (turns : ℕ) (answer : Result Front ViewFault) : Type 0 where
+pub record IsOrdering (times : Option Times) (sought : Sought) (old new : Account) (turns : ℕ)
+    (answer : Result Front ViewFault) : Type 0 where
   pub reads : new.calls ≤ turns
-  pub ordered : IfOk answer (IsOrdered sought old new)
+  pub ordered : IfOk answer (IsOrdered times sought old new)
   pub stopped : IfErr answer (IsOrderingStopped old new)
   -- When each fault comes.
   pub read : IsErrOf answer Read ↔ (0 < new.failures)

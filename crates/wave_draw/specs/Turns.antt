@@ -5,7 +5,7 @@ use Rattle.std.specs.List.{All}
 use Rattle.std.specs.Global.{Vec}
 use Rattle.lf_rules.specs.declared.event.Record.{Record}
 use Rattle.lf_rules.specs.Run.{Interleaves}
-use Rattle.explain_lines.specs.declared.times.Times.{Times}
+use Rattle.wave_order.specs.declared.clock.Clock.{Clock}
 use Rattle.wave_signals.specs.Wave.{Drawn, drawn_after, wave_from}
 use Rattle.wave_draw.specs.declared.order.Order.{Order}
 use Rattle.wave_draw.specs.declared.queues.Queues.{Queues}
@@ -42,7 +42,7 @@ pub record TakesDue (old new : Order) (records : List Record) (item : Option Rec
   pub none : IfNone item ((in_order (rest_of new) left ≡ []) × (left_by (rest_of new) left ≡ left))
 
 -- Of these, which wait, all whose turn it is, one after another, are drawn.
-pub record DrawsDue (times : Option Times) (old new : Order) (wave wave' : Drawn) (text text' : List ℕ)
+pub record DrawsDue (times : Option Clock) (old new : Order) (wave wave' : Drawn) (text text' : List ℕ)
     (records : List Record) : Type 0 where
   pub next : new.next ≡ old.next + length (in_order (rest_of old) records)
   pub waiting : Interleaves (queued new.waiting) (left_by (rest_of old) records)
@@ -66,7 +66,7 @@ HasRoom None wave count = wave.place + count < 2 ^ 63
 HasRoom (Some order) wave count = wave.place ≡ order.next
 
 -- After these records come more, and what is due then is drawn.
-pub record DrawsMore (times : Option Times) (old new : Option Order) (wave wave' : Drawn) (text text' : List ℕ)
+pub record DrawsMore (times : Option Clock) (old new : Option Order) (wave wave' : Drawn) (text text' : List ℕ)
     (records more : List Record) : Type 0 where
   pub come : HasComeTo new (records ++ more)
   pub due : List Record

@@ -14,17 +14,17 @@ use crate::drawing::Drawing;
 use crate::fault::ViewFault;
 use crate::order::Order;
 use crate::records::{drop_memory, feed, put_records};
-use explain_lines::Times;
 use lf_codec::{CodecFault, Reader};
 use lf_rules::NoMemory;
 use std::alloc::{AllocError, Global};
+use wave_order::Clock;
 use wave_signals::Wave;
 
 /// Reads a trace that comes in pieces, and has the wave of the last piece.
 #[derive(Drop)]
 pub struct Drawer {
     reader: Reader,
-    times: Option<Times>,
+    times: Option<Clock>,
     order: Option<Order>,
     wave: Wave,
     text: String,

@@ -23,4 +23,4 @@ pub use fault::ViewFault;
 pub use laws::yes_is_drawn_in_its_order;
 pub use ordering::order_of_no;
 pub use viewing::view;
-pub use wave_order::{Front, Sought};
+pub use wave_order::{Clock, Front, Sought};

@@ -9,10 +9,10 @@ ghost use Rattle.wave_draw.specs.Turns.{queued, IsPast, HasCome, TakesDue, Draws
 
 use crate::queues::Queues;
 use crate::records::drop_records;
-use explain_lines::Times;
 use lf_codec::Reader;
 use lf_rules::{NoMemory, Record};
 use std::alloc::Global;
+use wave_order::Clock;
 use wave_signals::Wave;
 
 /// An order, and the records that came before their turn.
@@ -55,7 +55,7 @@ impl Order {
     /// Puts what is shown of the records whose turn it is behind the text, one after another.
     fn put_due(
         &mut self,
-        times: &Option<Times>,
+        times: &Option<Clock>,
         wave: &mut Wave,
         text: &mut String,
     ) -> Result<(), NoMemory>
@@ -96,7 +96,7 @@ impl Order {
     pub fn put_records(
         &mut self,
         reader: &mut Reader,
-        times: &Option<Times>,
+        times: &Option<Clock>,
         wave: &mut Wave,
         text: &mut String,
     ) -> Result<(), NoMemory>

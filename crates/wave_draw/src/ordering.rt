@@ -10,6 +10,7 @@ ghost use Rattle.wave_draw.specs.Ordering.{IsSplit, IsOrdering};
 use crate::fault::ViewFault;
 use crate::records::{drop_memory, feed};
 use crate::viewing::PIECE;
+use explain_lines::Times;
 use lf_codec::{Reader, fault_so_far};
 use lf_rules::NoMemory;
 use run_stream::{Counted, Sink, Stop, gather, zeros};
@@ -56,20 +57,22 @@ impl Sink for Split {
 }
 
 /// Reads the trace until the reader is at its end or a fault of the format stands in what it gave, and answers the
-/// order of its records that ends with the one that is sought, or where no record may come. Each read is a turn, and
-/// there are at most so many turns.
+/// order of its records that ends with the one that is sought, or where no record may come. With times, it is by them as
+/// far as it can be. Each read is a turn, and there are at most so many turns.
 ///
 /// `ViewFault::Read` says that a read failed, `ViewFault::Turns` that the turns were used up before the trace was
 /// read, and `ViewFault::Memory` that a growth was refused.
 pub fn order_of_no<T: AllocGlobal, R: Read>(
     rt: &T,
     reader: &mut Counted<R>,
+    times: &Option<Times>,
     sought: Sought,
     turns: u32,
 ) -> Result<Front, ViewFault>
     requires calls { calls_of reader.old ≡ 0 }
     requires failures { failures_of reader.old ≡ 0 }
-    ensures { IsOrdering sought (account_of R.remaining reader.old) (account_of R.remaining reader.new) turns result }
+    ensures { IsOrdering times.now sought (account_of R.remaining reader.old) (account_of R.remaining reader.new) turns
+        result }
 {
     fault_so_far();
     let Ok(mut buffer) = zeros(rt.alloc(), PIECE) else {
@@ -80,7 +83,7 @@ pub fn order_of_no<T: AllocGlobal, R: Read>(
         left: Left::new(rt.alloc()),
     };
     match gather(reader, buffer.as_mut_slice(), &mut split, turns) {
-        Ok(()) => match order_to(rt.alloc(), split.left, sought) {
+        Ok(()) => match order_to(rt.alloc(), split.left, times, sought) {
             Ok(front) => Ok(front),
             Err(NoMemory) => Err(ViewFault::Memory),
         },

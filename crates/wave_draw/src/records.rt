@@ -8,9 +8,9 @@ ghost use Rattle.lf_codec.specs.Reader.{HasRead};
 ghost use Rattle.text_dump.specs.Dump.{HasFault};
 ghost use Rattle.wave_signals.specs.Wave.{drawn_after, wave_from};
 
-use explain_lines::Times;
 use lf_codec::{CodecCause, Reader, fault_so_far};
 use lf_rules::NoMemory;
+use wave_order::Clock;
 use wave_signals::Wave;
 
 /// Hands the reader a piece, and tells whether a fault stands in what it was fed so far. `NoMemory` says
@@ -49,7 +49,7 @@ pub fn drop_records(reader: &mut Reader)
 /// Takes all event records, and puts what is shown of them behind the text.
 pub fn put_records(
     reader: &mut Reader,
-    times: &Option<Times>,
+    times: &Option<Clock>,
     wave: &mut Wave,
     text: &mut String,
 ) -> Result<(), NoMemory>

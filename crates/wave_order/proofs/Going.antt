@@ -1,7 +1,7 @@
 -- The order, while one record after another comes.
-use Rattle.std.proofs.Common.{◌≡◌, ℕ, zero, suc, ◌+◌, ◌<◌, true, false, ◌==◌, List, [], ◌∷◌, ◌++◌, length}
-use Rattle.std.proofs.Common.{filter, map, drop, set, get_or, slice_index, slice_set, replicate, refl, sym, ap, ◌∙◌}
-use Rattle.std.proofs.Common.{subst, eqb-true, inl, inr, arith, Bool, if◌then◌else◌, add-zero}
+use Rattle.std.proofs.Common.{◌≡◌, ℕ, zero, suc, ◌+◌, ◌-◌, ◌^◌, ◌<◌, true, false, ◌==◌, List, [], ◌∷◌, ◌++◌, length}
+use Rattle.std.proofs.Common.{filter, map, min, drop, set, get_or, slice_index, slice_set, replicate, refl, sym, ap, ◌∙◌}
+use Rattle.std.proofs.Common.{subst, eqb-true, inl, inr, arith, Bool, if◌then◌else◌, add-zero, Option}
 use Rattle.std.proofs.lemmas.Bool.{cases_Bool, cond-true, cond-false, eqb-false}
 use Rattle.std.proofs.lemmas.List.{get_or-set_same, get_or-set_other, append-nil, append_assoc, length-append}
 use Rattle.std.proofs.lemmas.List.{length-set}
@@ -14,12 +14,15 @@ use Rattle.lf_rules.specs.Run.{of_log, of_bank, KeepsNumbers}
 use Rattle.wave_order.specs.declared.left.Left.{Left}
 use Rattle.wave_order.specs.declared.sought.Entry.{Entry}
 use Rattle.wave_order.specs.declared.sought.Sought.{Sought}
-use Rattle.wave_order.specs.Left.{queued, begins_due, HasLeft, ComesLowest}
+use Rattle.explain_lines.specs.declared.times.Times.{Times}
+use Rattle.wave_order.specs.Left.{queued, begins_due, HasLeft, ComesFirst, IsEarliest}
 use Rattle.wave_order.specs.OrderTo.{entry_of, is_due, counts_entry, is_counted, is_entry_sought, NoneMayCome}
-use Rattle.wave_order.specs.OrderTo.{NamesLowest, IsOrderTo}
+use Rattle.wave_order.specs.OrderTo.{IsFirst, NamesFirst, IsOrderTo}
+use Rattle.wave_order.specs.Times.{came_of, one_more_of}
 use Rattle.wave_order.specs.Ordered.{without_next, in_order, left_by}
 use Rattle.wave_order.proofs.Ordered.{either, stops, begins, leaves}
 use Rattle.wave_order.proofs.Coming.{Counts, begins_alike, some_begins, of_it, of_another, due_number, keeps_more}
+use Rattle.wave_order.proofs.Earliest.{came_more, earliest_first}
 use Rattle.wave_order.proofs.Entries.{AreOf, Queue, queue_at, goes}
 
 -- ---- the numbers that come next
@@ -80,7 +83,7 @@ module _ (left : Left) (gone records : List Record) (has : HasLeft left gone rec
 
   module _ (at log bank number : ℕ) (same : log ≡ at) (within : at < length left.logs.items)
       (begins : begins_due left.next (log_at (queued left) at) ≡ true)
-      (below : (other : ℕ) → other < at → begins_due left.next (log_at (queued left) other) ≡ false)
+      (times : Option Times) (earliest : IsEarliest times left at)
       (old queue : Queue) (is : old ≡ get_or left.logs.items at old) (first : old.items ≡ (bank, number) ∷ queue.items)
       (rest : queue.items ≡ drop 1 old.items) (fits : bank < 256) where
     begun : (r : Record) × (rest : List Record) × (of_log at records ≡ r ∷ rest)
@@ -98,11 +101,11 @@ module _ (left : Left) (gone records : List Record) (has : HasLeft left gone rec
         let entries : pair_of item ∷ map pair_of begun.1 ≡ named ∷ queue.items =
         sym (ap (map pair_of) begun.2) ∙ sym (has.each at) ∙ queue_at left.logs.items at old is within ∙ first in cc
 
-    pub comes_lowest : (new : Left) → new.logs.items ≡ set left.logs.items at queue →
-        new.next ≡ slice_set left.next bank (number + 1) →
-        ComesLowest gone records new (record { log = log; bank = bank; number = number })
+    pub comes_first : (new : Left) → new.logs.items ≡ set left.logs.items at queue →
+        new.next ≡ slice_set left.next bank (number + 1) → new.came.0 ≡ one_more_of left.came.0 log →
+        ComesFirst times gone records new (record { log = log; bank = bank; number = number })
     unfolding item begun
-    comes_lowest new logs next =
+    comes_first new logs next came =
         let its_bank : item.bank ≡ bank = ap (λ (e : ℕ × ℕ). e.0) its_entry in
         let its_number : item.number ≡ number = ap (λ (e : ℕ × ℕ). e.1) its_entry in
         let due : is_due gone item ≡ true =
@@ -114,10 +117,15 @@ module _ (left : Left) (gone records : List Record) (has : HasLeft left gone rec
           first = ap (λ (k : ℕ). of_log k records) same ∙ begun.2;
           is = entries_alike log bank number item its_log its_bank its_number;
           due = due;
-          lowest = λ other r others lower some.
-              sym (begins_alike left.next gone has.next (queued left) records has.each other r others some)
-              ∙ below other (subst (λ (k : ℕ). other < k) same lower);
+          earliest = subst (IsFirst times gone records) (sym same)
+              (earliest_first times left gone records has at within earliest);
           left = record {
+            counted = ap length came ∙ length-set left.came.0 log (min (came_of left.came.0 log + 1) (2 ^ 64 - 1))
+                ∙ has.counted;
+            came = λ k lt.
+                ap (λ (counts : List ℕ). came_of counts k) came
+                ∙ ap (λ (l : ℕ). came_of (one_more_of left.came.0 l) k) (sym its_log)
+                ∙ came_more left.came.0 gone item has.counted has.came k lt;
             few = omega (arith, has.few, ap length logs, length-set left.logs.items at queue);
             sized = ap length next ∙ length-set left.next bank (number + 1) ∙ has.sized;
             each = subst (λ (k : ℕ). AreOf (queued new) (without_next k records)) (sym same)
@@ -161,17 +169,13 @@ taken_more (first ∷ order) records log r rest places some =
           )
     ]
 
--- No lower log's next record may come.
-abbrev pub NoneLower : List Record → List Record → ℕ → Type 0
-NoneLower gone others log = (lower : ℕ) (r : Record) (rest : List Record) → lower < log →
-    of_log lower others ≡ r ∷ rest → is_due gone r ≡ false
-
-pub names_more : (order : List ℕ) (gone others : List Record) (log : ℕ) →
-    length (in_order order others) ≡ length order → NamesLowest gone others order →
-    NoneLower (gone ++ in_order order others) (left_by order others) log → NamesLowest gone others (order ++ log ∷ [])
-names_more [] gone others log places names none =
-    (subst (λ (rs : List Record). NoneLower rs others log) (append-nil gone) none, tt)
-names_more (first ∷ order) gone others log places names none =
+pub names_more : (times : Option Times) (order : List ℕ) (gone others : List Record) (log : ℕ) →
+    length (in_order order others) ≡ length order → NamesFirst times gone others order →
+    IsFirst times (gone ++ in_order order others) (left_by order others) log →
+    NamesFirst times gone others (order ++ log ∷ [])
+names_more times [] gone others log places names none =
+    (subst (λ (rs : List Record). IsFirst times rs others log) (append-nil gone) none, tt)
+names_more times (first ∷ order) gone others log places names none =
     elim (either (of_log first others)) [
       | inl empty ↦
           let short : length (in_order (first ∷ order) others) ≡ 0 = ap length (stops first order others empty) in
@@ -186,10 +190,10 @@ names_more (first ∷ order) gone others log places names none =
           ap (λ (l : List Record). gone ++ l) (now ∙ ap (λ (l : List Record). l ++ in_order order later) (sym one))
           ∙ sym (append_assoc gone (in_order (first ∷ []) others) (in_order order later)) in (
             names.0,
-            names_more order (gone ++ in_order (first ∷ []) others) later log
+            names_more times order (gone ++ in_order (first ∷ []) others) later log
                 (omega (arith, places, ap length now)) names.1
-                (subst (λ (rs : List Record). NoneLower rs (left_by order later) log) all
-                (subst (λ (rs : List Record). NoneLower (gone ++ in_order (first ∷ order) others) rs log)
+                (subst (λ (rs : List Record). IsFirst times rs (left_by order later) log) all
+                (subst (λ (rs : List Record). IsFirst times (gone ++ in_order (first ∷ order) others) rs log)
                 (leaves first order others has.0 has.1 has.2) none)),
           )
     ]
@@ -197,26 +201,27 @@ names_more (first ∷ order) gone others log places names none =
 -- ---- the loop
 
 -- Of these records the order took some, and so many of them are of the log in which one is sought.
-pub record Going (sought : Sought) (now : Left) (order : List ℕ) (count : ℕ) (records : List Record) : Type 0 where
+pub record Going (times : Option Times) (sought : Sought) (now : Left) (order : List ℕ) (count : ℕ)
+    (records : List Record) : Type 0 where
   pub places : length (in_order order records) ≡ length order
   pub numbers : KeepsNumbers (in_order order records)
-  pub lowest : NamesLowest [] records order
+  pub firsts : NamesFirst times [] records order
   pub left : HasLeft now (in_order order records) (left_by order records)
   pub before : count ≡ length (filter (is_counted sought) (in_order order records))
 
-pub going_at_first : (sought : Sought) (left : Left) (records : List Record) → HasLeft left [] records →
-    Going sought left [] 0 records
-going_at_first sought left records has = record {
+pub going_at_first : (times : Option Times) (sought : Sought) (left : Left) (records : List Record) →
+    HasLeft left [] records → Going times sought left [] 0 records
+going_at_first times sought left records has = record {
   places = refl;
   numbers = λ bank lt. refl;
-  lowest = tt;
+  firsts = tt;
   left = has;
   before = refl;
 }
 
-module _ (sought : Sought) (left new : Left) (order : List ℕ) (before : ℕ) (records : List Record)
-    (going : Going sought left order before records) (e : Entry)
-    (comes : ComesLowest (in_order order records) (left_by order records) new e) where
+module _ (times : Option Times) (sought : Sought) (left new : Left) (order : List ℕ) (before : ℕ)
+    (records : List Record) (going : Going times sought left order before records) (e : Entry)
+    (comes : ComesFirst times (in_order order records) (left_by order records) new e) where
   abbrev more : List ℕ
   more = order ++ e.log ∷ []
 
@@ -234,16 +239,15 @@ module _ (sought : Sought) (left new : Left) (order : List ℕ) (before : ℕ) (
   numbers_more : KeepsNumbers (in_order more records)
   numbers_more = subst KeepsNumbers (sym taken.0) (keeps_more drawn comes.item comes.due going.numbers)
 
-  lowest_more : NamesLowest [] records more
-  lowest_more =
-      names_more order [] records e.log going.places going.lowest (λ lower r rest. comes.lowest lower r rest)
+  firsts_more : NamesFirst times [] records more
+  firsts_more = names_more times order [] records e.log going.places going.firsts comes.earliest
 
   -- the record that came is the one that is sought
-  pub ends_here : is_entry_sought sought before e ≡ true → IsOrderTo sought records more true
+  pub ends_here : is_entry_sought sought before e ≡ true → IsOrderTo times sought records more true
   ends_here is = record {
     all_places = places_more;
     numbers = numbers_more;
-    lowest = lowest_more;
+    firsts = firsts_more;
     ends = record {
       before = drawn;
       last = comes.item;
@@ -270,11 +274,11 @@ module _ (sought : Sought) (left new : Left) (order : List ℕ) (before : ℕ) (
 
   -- the order goes on
   goes_on : (now : ℕ) → now ≡ before + (if is_counted sought comes.item then 1 else 0) →
-      Going sought new more now records
+      Going times sought new more now records
   goes_on now is = record {
     places = places_more;
     numbers = numbers_more;
-    lowest = lowest_more;
+    firsts = firsts_more;
     left = subst (λ (rs : List Record). HasLeft new rs (left_by more records)) (sym taken.0)
         (subst (HasLeft new (drawn ++ comes.item ∷ [])) (sym taken.1) comes.left);
     before = is ∙ sym (counted_more (is_counted sought comes.item) refl)
@@ -284,11 +288,11 @@ module _ (sought : Sought) (left new : Left) (order : List ℕ) (before : ℕ) (
   its_count : counts_entry sought e ≡ is_counted sought comes.item
   its_count = ap (counts_entry sought) comes.is
 
-  pub goes_on_in_log : counts_entry sought e ≡ true → Going sought new more (before + 1) records
+  pub goes_on_in_log : counts_entry sought e ≡ true → Going times sought new more (before + 1) records
   goes_on_in_log is =
       goes_on (before + 1) (ap (λ (b : Bool). before + (if b then 1 else 0)) (sym is ∙ its_count))
 
-  pub goes_on_elsewhere : counts_entry sought e ≡ false → Going sought new more before records
+  pub goes_on_elsewhere : counts_entry sought e ≡ false → Going times sought new more before records
   goes_on_elsewhere isnt =
       goes_on before (sym (add-zero before)
       ∙ ap (λ (b : Bool). before + (if b then 1 else 0)) (sym isnt ∙ its_count))

@@ -1,4 +1,7 @@
 pub mod Coming
+mod Axis
+mod Numbers
+pub mod Earliest
 pub mod Entries
 pub mod Going
 pub mod Ordered

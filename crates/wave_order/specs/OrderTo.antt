@@ -1,7 +1,8 @@
--- The order of a no: each log in its own order and the records of each bank by their numbers, as far as they go, and
--- no further than to the record that is sought.
-use Rattle.std.specs.Prelude.{◌≡◌, ℕ, ◌<◌, ◌==◌, ◌&&◌, ◌||◌, not, nat_lt, Bool, true, false, List, [], ◌∷◌, ◌++◌}
-use Rattle.std.specs.Prelude.{length, filter}
+-- An order of records: each log in its own order and the records of each bank by their numbers, as far as they go, and
+-- no further than to the record that is sought. Of those that may come, the one of the least rank comes.
+use Rattle.std.specs.Prelude.{◌≡◌, ◌⊎◌, ℕ, ◌-◌, ◌^◌, min, ◌<◌, ◌==◌, ◌&&◌, ◌||◌, not, nat_lt, Bool, true, false}
+use Rattle.std.specs.Prelude.{List, [], ◌∷◌, ◌++◌, length, filter, Option}
+use Rattle.explain_lines.specs.declared.times.Times.{Times}
 use Rattle.lf_rules.specs.declared.event.Record.{Record}
 use Rattle.lf_rules.specs.Address.{no_bank}
 use Rattle.lf_rules.specs.Run.{of_log, of_bank, KeepsNumbers}
@@ -9,6 +10,7 @@ use Rattle.wave_order.specs.declared.sought.Entry.{Entry}
 use Rattle.wave_order.specs.declared.sought.Sought.{Sought}
 use Rattle.wave_order.specs.declared.sought.Sought.TheVariants.{Nothing, InLog, InBank}
 use Rattle.wave_order.specs.Ordered.{without_next, in_order, left_by}
+use Rattle.wave_order.specs.Times.{rank_of}
 
 -- ---- which record is sought
 
@@ -44,13 +46,28 @@ abbrev pub NoneMayCome : List Record → List Record → Type 0
 NoneMayCome gone others = (log : ℕ) (r : Record) (rest : List Record) → of_log log others ≡ r ∷ rest →
     is_due gone r ≡ false
 
--- After these, each place names the lowest log whose next record of the others may come.
-abbrev pub NamesLowest : List Record → List Record → List ℕ → Type 0
-NamesLowest gone others [] = Unit {0}
-NamesLowest gone others (log ∷ order) =
-    ((lower : ℕ) (r : Record) (rest : List Record) → lower < log → of_log lower others ≡ r ∷ rest →
-    is_due gone r ≡ false)
-    × NamesLowest (gone ++ in_order (log ∷ []) others) (without_next log others) order
+-- how many of the log came, as far as 64 bits go
+abbrev pub came : ℕ → List Record → ℕ
+came log gone = min (length (of_log log gone)) (2 ^ 64 - 1)
+
+-- after these, the rank of the log's next record
+abbrev pub rank : Option Times → List Record → ℕ → ℕ
+rank times gone log = rank_of times log (came log gone)
+
+-- the one of this rank and log is before the other: its rank is less, or it is the same and its log is lower
+abbrev pub IsBefore : ℕ → ℕ → ℕ → ℕ → Type 0
+IsBefore mine log others other = (mine < others) ⊎ ((mine ≡ others) × (log < other))
+
+-- After these, no other log's next record that may come is before that of this log.
+abbrev pub IsFirst : Option Times → List Record → List Record → ℕ → Type 0
+IsFirst times gone others log = (other : ℕ) (r : Record) (rest : List Record) → of_log other others ≡ r ∷ rest →
+    is_due gone r ≡ true → ¬ IsBefore (rank times gone other) other (rank times gone log) log
+
+-- After these, each place names the log whose next record of the others is the first of those that may come.
+abbrev pub NamesFirst : Option Times → List Record → List Record → List ℕ → Type 0
+NamesFirst times gone others [] = Unit {0}
+NamesFirst times gone others (log ∷ order) = IsFirst times gone others log
+    × NamesFirst times (gone ++ in_order (log ∷ []) others) (without_next log others) order
 
 -- The last one of these is the one that is sought.
 pub record EndsWith (sought : Sought) (records : List Record) : Type 0 where
@@ -65,9 +82,10 @@ Ends sought true drawn others = EndsWith sought drawn
 Ends sought false drawn others = NoneMayCome drawn others
 
 -- What the order takes from these records.
-pub record IsOrderTo (sought : Sought) (records : List Record) (order : List ℕ) (reached : Bool) : Type 0 where
+pub record IsOrderTo (times : Option Times) (sought : Sought) (records : List Record) (order : List ℕ)
+    (reached : Bool) : Type 0 where
   -- Each place has the next record of the log that it names.
   pub all_places : length (in_order order records) ≡ length order
   pub numbers : KeepsNumbers (in_order order records)
-  pub lowest : NamesLowest [] records order
+  pub firsts : NamesFirst times [] records order
   pub ends : Ends sought reached (in_order order records) (left_by order records)

@@ -7,6 +7,7 @@ ghost use Rattle.wave_order.specs.OrderTo.{IsOrderTo};
 
 use crate::left::Left;
 use crate::sought::Sought;
+use explain_lines::Times;
 use lf_rules::NoMemory;
 use std::alloc::Global;
 
@@ -19,16 +20,22 @@ pub struct Front {
     pub reached: bool,
 }
 
-/// The order of these records: the next one is always that of the lowest log whose next record may come. It ends with
-/// the record that is sought, or where none may come.
-pub fn order_to(alloc: Global, left: Left, sought: Sought) -> Result<Front, NoMemory>
+/// The order of these records: of those that may come, the next one is always that of the least number in front of its
+/// time, and of several, or without times, that of the lowest log. It ends with the record that is sought, or where none
+/// may come.
+pub fn order_to(
+    alloc: Global,
+    left: Left,
+    times: &Option<Times>,
+    sought: Sought,
+) -> Result<Front, NoMemory>
     ensures { (records : List Record) → HasLeft left [] records →
-        IfOk result (λ front. IsOrderTo sought records front.logs.items front.reached) }
+        IfOk result (λ front. IsOrderTo times.now sought records front.logs.items front.reached) }
 {
     let mut left = left;
     let mut logs = Vec::new(alloc);
     let mut before = 0;
-    while let Some(entry) = left.take() {
+    while let Some(entry) = left.take(times) {
         logs.push(entry.log)?;
         if sought.is(before, entry) {
             return Ok(Front {

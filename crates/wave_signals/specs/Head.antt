@@ -5,13 +5,15 @@ use Rattle.std.specs.List.{range_with_len}
 use Rattle.std.specs.Fmt.{decimal}
 use Rattle.wave_signals.specs.declared.registers.Level.{Level}
 use Rattle.wave_signals.specs.declared.registers.Level.TheVariants as levels
+use Rattle.wave_signals.specs.declared.signal.Named.{Named}
+use Rattle.wave_signals.specs.declared.signal.Named.TheVariants as names
 use Rattle.wave_signals.specs.declared.signal.Signal.{Signal}
 use Rattle.wave_signals.specs.declared.signal.Signal.TheVariants as signals
 use Rattle.wave_signals.specs.declared.view.Marker.{Marker}
 use Rattle.wave_signals.specs.declared.view.View.{View}
 use Rattle.wave_signals.specs.Signals.{line, identifier, bit_change, number_change, text_change, level_text}
 use Rattle.wave_signals.specs.Signals.{free_change}
-use Rattle.wave_signals.specs.Wave.{time, all_counts, fault_named}
+use Rattle.wave_signals.specs.Wave.{time, all_counts, marked}
 use Rattle.wave_traffic.specs.declared.counts.Counts.{Counts}
 
 -- ---- signals
@@ -113,11 +115,18 @@ abbrev pub time_variable : Bool → List ℕ
 time_variable true = text_variable signals.Time (codes "time")
 time_variable false = []
 
+-- the fault that the verdict names, and what broke first
+abbrev pub mark_values : List ℕ
+mark_values =
+    number_variable 1 (signals.Fault names.ByVerdict) (codes "fault")
+    ++ (text_variable (signals.Rule names.ByVerdict) (codes "rule")
+    ++ (number_variable 1 (signals.Fault names.First) (codes "first_fault")
+    ++ text_variable (signals.Rule names.First) (codes "first_rule")))
+
 abbrev pub scopes : Bool → View → ℕ → ℕ → List ℕ
 scopes times view ports banks =
     line (codes "$scope module score $end") ++ (time_variable times
-    ++ (number_variable 1 signals.Fault (codes "fault") ++ (text_variable signals.Rule (codes "rule")
-    ++ (port_scopes view.tags ports ++ (bank_scopes view banks ++ scope_end)))))
+    ++ (mark_values ++ (port_scopes view.tags ports ++ (bank_scopes view banks ++ scope_end))))
 
 -- ---- the first values: no time, no word, no tag is busy, no register is held, no block goes between the levels, no
 -- line is dirty, and there is no fault where it is not before
@@ -155,22 +164,32 @@ bank_start view bank =
 abbrev pub bank_starts : View → ℕ → List ℕ
 bank_starts view banks = flat_map (bank_start view) (range_with_len 0 banks)
 
-abbrev pub no_fault : List ℕ
-no_fault = bit_change false signals.Fault ++ text_change [] signals.Rule
+abbrev pub unmarked : Named → List ℕ
+unmarked which = bit_change false (signals.Fault which) ++ text_change [] (signals.Rule which)
 
--- the fault, where the record at fault is before the first one that is shown
-abbrev pub fault_start : Option Marker → ℕ → List ℕ
-fault_start (Some m) from = if nat_lt m.place from then fault_named m.rule else no_fault
-fault_start None from = no_fault
+-- a mark, where the record that is marked is before the first one that is shown
+abbrev pub mark_start : Named → Option Marker → ℕ → List ℕ
+mark_start which (Some m) from = if nat_lt m.place from then marked which m.why else unmarked which
+mark_start which None from = unmarked which
+
+-- A wave with times begins at time 0.
+abbrev pub start_time : Bool → ℕ → List ℕ
+start_time true from = time 0 []
+start_time false from = time from (codes "0")
 
 abbrev pub start : Bool → View → ℕ → ℕ → List ℕ
 start times view ports banks =
-    time view.from (codes "0") ++ (line (codes "$dumpvars")
-    ++ (time_start times ++ (fault_start view.marker view.from
-    ++ (port_starts view.tags ports ++ (bank_starts view banks ++ line (codes "$end"))))))
+    start_time times view.from ++ (line (codes "$dumpvars")
+    ++ (time_start times ++ (mark_start names.ByVerdict view.marker view.from
+    ++ (mark_start names.First view.first view.from
+    ++ (port_starts view.tags ports ++ (bank_starts view banks ++ line (codes "$end")))))))
 
--- The head. A time is counted in tenths of a nanosecond.
+-- what a time counts: picoseconds in a wave with times, else tenths of a nanosecond
+abbrev pub timescale : Bool → List ℕ
+timescale true = codes "1 ps"
+timescale false = codes "100 ps"
+
 abbrev pub head_text : Bool → View → ℕ → ℕ → List ℕ
 head_text times view ports banks =
-    line (codes "$timescale 100 ps $end") ++ (scopes times view ports banks
-    ++ (line (codes "$enddefinitions $end") ++ start times view ports banks))
+    codes "$timescale " ++ (timescale times ++ (line (codes " $end") ++ (scopes times view ports banks
+    ++ (line (codes "$enddefinitions $end") ++ start times view ports banks))))

@@ -1,13 +1,15 @@
 -- The file of signals that GTKWave opens beside a wave: a line of flags before each signal says how its values are
 -- shown.
-use Rattle.std.specs.Prelude.{ℕ, ◌-◌, max, Bool, true, false, List, [], ◌++◌, codes, flat_map, Option, Some, None}
+use Rattle.std.specs.Prelude.{ℕ, ◌-◌, max, List, [], ◌++◌, codes, flat_map, Option, Some, None}
 use Rattle.std.specs.List.{range_with_len}
 use Rattle.std.specs.Fmt.{decimal}
+use Rattle.wave_order.specs.declared.clock.Clock.{Clock}
 use Rattle.wave_signals.specs.declared.registers.Level.{Level}
 use Rattle.wave_signals.specs.declared.registers.Level.TheVariants as levels
 use Rattle.wave_signals.specs.declared.view.Marker.{Marker}
 use Rattle.wave_signals.specs.declared.view.View.{View}
 use Rattle.wave_signals.specs.Signals.{line, level_text}
+use Rattle.wave_order.specs.Times.{at_of}
 
 -- ---- how values are shown
 
@@ -26,9 +28,13 @@ as_text = codes "820"
 -- ---- signals
 
 -- the times of the records, where the wave has them
-abbrev pub time_row : Bool → List ℕ
-time_row true = codes "@820\nscore.time\n"
-time_row false = []
+abbrev pub time_row : Option Clock → List ℕ
+time_row (Some clock) = codes "@820\nscore.time\n"
+time_row None = []
+
+-- the fault that the verdict names, and what broke first
+abbrev pub mark_rows : List ℕ
+mark_rows = codes "@28\nscore.fault\n@820\nscore.rule\n@28\nscore.first_fault\n@820\nscore.first_rule\n"
 
 abbrev pub port_row : ℕ → List ℕ → List ℕ → List ℕ
 port_row port flags name = codes "@" ++ (flags ++ (codes "\nscore.port" ++ (decimal port ++ (codes "." ++ line name))))
@@ -95,7 +101,7 @@ all_bank_rows view banks = flat_map (bank_rows view) (range_with_len 0 banks)
 
 -- ---- the file
 
--- the place of the first record on the screen: a few before the one at fault
+-- the place of the first record on the screen: a few before the one that the verdict names
 abbrev pub opens : Option Marker → ℕ → ℕ
 opens (Some m) from = max (m.place - 6) from
 opens None from = from
@@ -103,14 +109,28 @@ opens None from = from
 abbrev pub opens_at : View → ℕ
 opens_at view = opens view.marker view.from
 
--- the time of the record at fault in picoseconds, or -1 where there is none
-abbrev pub marked_at : Option Marker → List ℕ
-marked_at (Some m) = decimal m.place ++ codes "000"
-marked_at None = codes "-1"
+-- where a place is on the axis, in picoseconds
+abbrev pub picoseconds : Option Clock → ℕ → List ℕ
+picoseconds None place = decimal place ++ codes "000"
+picoseconds (Some clock) place = decimal (at_of clock place)
 
--- where GTKWave begins, how much it shows at once, its marker, and the signals
-abbrev pub save_text : Bool → View → ℕ → ℕ → List ℕ
+-- where a record that is marked is, or -1 where there is none
+abbrev pub marked_at : Option Clock → Option Marker → List ℕ
+marked_at times (Some m) = picoseconds times m.place
+marked_at times None = codes "-1"
+
+-- how much GTKWave shows at once
+abbrev pub zoom : Option Clock → List ℕ
+zoom None = codes "10"
+zoom (Some clock) = decimal clock.zoom
+
+-- where it begins, how much it shows, its marker, and its marker A at what broke first
+abbrev pub opening : Option Clock → View → List ℕ
+opening times view =
+    codes "[timestart] " ++ (picoseconds times (opens_at view) ++ (codes "\n[size] 1600 900\n*-" ++ (zoom times
+    ++ (codes ".5 " ++ (marked_at times view.marker ++ (codes " " ++ (marked_at times view.first ++ line [])))))))
+
+abbrev pub save_text : Option Clock → View → ℕ → ℕ → List ℕ
 save_text times view ports banks =
-    codes "[timestart] " ++ (decimal (opens_at view) ++ (codes "000\n[size] 1600 900\n*-10.5 " ++ (marked_at view.marker
-    ++ (codes "\n[signals_width] 210\n" ++ (time_row times ++ (codes "@28\nscore.fault\n@820\nscore.rule\n"
-    ++ (all_port_rows view.tags ports ++ all_bank_rows view banks)))))))
+    opening times view ++ (codes "[signals_width] 210\n" ++ (time_row times ++ (mark_rows
+    ++ (all_port_rows view.tags ports ++ all_bank_rows view banks))))

@@ -13,7 +13,7 @@ most_registers = 64
 abbrev pub with_signals : OrgShape → ℕ → ℕ
 with_signals organisation destinations = min (registers_of organisation destinations) most_registers
 
--- All records, with no mark. Each tag has a signal, and of the registers of each level the first ones.
+-- All records, none of them marked. Each tag has a signal, and of the registers of each level the first ones.
 abbrev pub whole : Shape → View
 whole shape = record {
   from = 0;
@@ -25,4 +25,5 @@ whole shape = record {
   block = shape.block;
   factor = shape.factor;
   marker = None;
+  first = None;
 }

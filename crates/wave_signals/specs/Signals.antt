@@ -4,6 +4,7 @@ use Rattle.std.specs.Fmt.{decimal, digits}
 use Rattle.wave_signals.specs.declared.registers.HeldRegister.{HeldRegister}
 use Rattle.wave_signals.specs.declared.registers.Level.{Level}
 use Rattle.wave_signals.specs.declared.registers.Level.TheVariants as levels
+use Rattle.wave_signals.specs.declared.signal.Named.TheVariants as names
 use Rattle.wave_signals.specs.declared.signal.Signal.{Signal}
 use Rattle.wave_signals.specs.declared.signal.Signal.TheVariants as signals
 
@@ -27,8 +28,10 @@ target_letter levels.Two = codes "u"
 
 -- the name of a signal within the file
 abbrev pub identifier : Signal → List ℕ
-identifier signals.Fault = codes "f"
-identifier signals.Rule = codes "r"
+identifier (signals.Fault names.ByVerdict) = codes "f"
+identifier (signals.Fault names.First) = codes "ff"
+identifier (signals.Rule names.ByVerdict) = codes "r"
+identifier (signals.Rule names.First) = codes "fr"
 identifier signals.Time = codes "t"
 identifier (signals.PortEvent port) = of_port port (codes "e")
 identifier (signals.PortTag port) = of_port port (codes "i")

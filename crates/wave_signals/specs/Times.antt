@@ -1,25 +1,11 @@
 -- The time of each record, where a map tells it.
-use Rattle.std.specs.Prelude.{ℕ, ◌+◌, ◌/◌, ◌%◌, ◌==◌, ◌&&◌, not, nat_le, Bool, List, [], ◌∷◌, ◌++◌, codes}
-use Rattle.std.specs.Prelude.{if◌then◌else◌, Option, Some, None, flat_map, replicate, slice_index, slice_set}
+use Rattle.std.specs.Prelude.{ℕ, ◌/◌, ◌%◌, ◌==◌, ◌&&◌, not, nat_le, Bool, List, [], ◌∷◌, ◌++◌, codes}
+use Rattle.std.specs.Prelude.{if◌then◌else◌, Option, Some, None, flat_map}
 use Rattle.std.specs.Fmt.{decimal}
-use Rattle.explain_lines.specs.declared.times.Times.{Times}
 use Rattle.explain_lines.specs.Map.{time_of}
+use Rattle.wave_order.specs.declared.clock.Clock.{Clock}
 use Rattle.wave_signals.specs.declared.signal.Signal.TheVariants as signals
 use Rattle.wave_signals.specs.Signals.{text_change}
-
--- ---- how many records of each log came
-
--- before the first record
-abbrev pub none_came : List ℕ
-none_came = replicate 256 0
-
--- how many of this log did
-abbrev pub came_of : List ℕ → ℕ → ℕ
-came_of counts log = slice_index counts log
-
--- after one more of this log
-abbrev pub one_more_of : List ℕ → ℕ → List ℕ
-one_more_of counts log = slice_set counts log (came_of counts log + 1)
 
 -- ---- the text of a time
 
@@ -42,6 +28,6 @@ time_text (Some time) = escaped time
 time_text None = []
 
 -- The time of the record at a place of a log, from that record on. A record of which the map tells none has no text.
-abbrev pub told_time : Option Times → ℕ → ℕ → List ℕ
-told_time (Some times) log place = text_change (time_text (time_of times log place)) signals.Time
+abbrev pub told_time : Option Clock → ℕ → ℕ → List ℕ
+told_time (Some clock) log place = text_change (time_text (time_of clock.times log place)) signals.Time
 told_time None log place = []

@@ -1,29 +1,33 @@
 -- The wave of a trace: what each record changes. A record's place is the number of records that stand before it.
-use Rattle.std.specs.Prelude.{ℕ, ◌+◌, ◌-◌, ◌^◌, min, ◌==◌, ◌&&◌, ◌||◌, not, Bool, true, false, List, [], ◌∷◌, ◌++◌}
-use Rattle.std.specs.Prelude.{codes, nat_le, if◌then◌else◌, Option, Some, None, filter, count_by, flat_map}
+use Rattle.std.specs.Prelude.{ℕ, ◌+◌, ◌-◌, ◌^◌, min, max, ◌==◌, ◌&&◌, ◌||◌, not, Bool, true, false, List, []}
+use Rattle.std.specs.Prelude.{◌∷◌, ◌++◌, codes, nat_le, if◌then◌else◌, Option, Some, None, filter, count_by, flat_map}
 use Rattle.std.specs.Fmt.{decimal}
 use Rattle.std.specs.List.{range_with_len}
 use Rattle.lf_rules.specs.Text.{rule_text}
 use Rattle.lf_rules.specs.declared.event.Event.{Event}
 use Rattle.lf_rules.specs.declared.event.Event.TheVariants as events
 use Rattle.lf_rules.specs.declared.event.Record.{Record}
-use Rattle.lf_rules.specs.declared.rule.Rule.{Rule}
-use Rattle.explain_lines.specs.declared.times.Times.{Times}
 use Rattle.text_print.specs.Text.{word_of}
 use Rattle.wave_traffic.specs.declared.counts.Counts.{Counts}
 use Rattle.wave_traffic.specs.Flow.{Flows, flow_at, counts_of, flows_after, no_flow}
 use Rattle.wave_signals.specs.declared.busy.BusyTag.{BusyTag}
+use Rattle.wave_order.specs.declared.clock.Clock.{Clock}
 use Rattle.wave_signals.specs.declared.registers.HeldRegister.{HeldRegister}
 use Rattle.wave_signals.specs.declared.registers.Level.{Level}
 use Rattle.wave_signals.specs.declared.registers.Level.TheVariants as levels
+use Rattle.wave_signals.specs.declared.signal.Named.{Named}
+use Rattle.wave_signals.specs.declared.signal.Named.TheVariants as names
 use Rattle.wave_signals.specs.declared.signal.Signal.{Signal}
 use Rattle.wave_signals.specs.declared.signal.Signal.TheVariants as signals
 use Rattle.wave_signals.specs.declared.view.Marker.{Marker}
 use Rattle.wave_signals.specs.declared.view.View.{View}
+use Rattle.wave_signals.specs.declared.view.Why.{Why}
+use Rattle.wave_signals.specs.declared.view.Why.TheVariants as whys
 use Rattle.wave_signals.specs.Registers.{block_requested, is_of_block, register_of, in_use, level1_after, level2_after}
 use Rattle.wave_signals.specs.Signals.{line, bit_change, number_change, text_change, busy_change, held_change}
 use Rattle.wave_signals.specs.Signals.{absence_change, freed_change}
-use Rattle.wave_signals.specs.Times.{none_came, came_of, one_more_of, told_time}
+use Rattle.wave_order.specs.Times.{none_came, came_of, one_more_of, at_of}
+use Rattle.wave_signals.specs.Times.{told_time}
 
 -- ---- busy tags: an issue makes its tag busy, and a reply frees it
 
@@ -193,9 +197,9 @@ standing_counts banks flows = flat_map (standing_count flows) (range_with_len 0 
 
 -- ---- the wave
 
--- a time, in tenths of a nanosecond
+-- a time: a place and a tenth of a nanosecond, or picoseconds alone
 abbrev pub time : ℕ → List ℕ → List ℕ
-time place tenth = codes "#" ++ (decimal place ++ line tenth)
+time count tenth = codes "#" ++ (decimal count ++ line tenth)
 
 -- a tag that is busy where the wave begins, and how many of its port are
 abbrev pub standing_tag : ℕ → List BusyTag → BusyTag → List ℕ
@@ -221,53 +225,88 @@ standing view place busy level1 level2 flows =
     ++ standing_counts view.banks flows))
     else []
 
--- from the record at fault on, with the rule that it breaks
-abbrev pub fault_named : Rule → List ℕ
-fault_named rule = bit_change true signals.Fault ++ text_change (rule_text rule) signals.Rule
+-- the rule that a record breaks, or that no record can come behind it
+abbrev pub why_text : Why → List ℕ
+why_text (whys.Rule rule) = rule_text rule
+why_text whys.Stop = codes "no_next_record"
 
--- the mark of the record at fault
-abbrev pub mark : Option Marker → ℕ → List ℕ
-mark (Some m) place = if place == m.place then fault_named m.rule else []
-mark None place = []
+abbrev pub is_fault : Why → Bool
+is_fault (whys.Rule rule) = true
+is_fault whys.Stop = false
+
+-- from a record that is marked on
+abbrev pub marked : Named → Why → List ℕ
+marked which why = bit_change (is_fault why) (signals.Fault which) ++ text_change (why_text why) (signals.Rule which)
+
+-- the mark of a record, where it is the one that is marked
+abbrev pub mark : Named → Option Marker → ℕ → List ℕ
+mark which (Some m) place = if place == m.place then marked which m.why else []
+mark which None place = []
+
+-- that of the record which the verdict names, and that of the one which broke a rule first
+abbrev pub marks : View → ℕ → List ℕ
+marks view place = mark names.ByVerdict view.marker place ++ mark names.First view.first place
+
+-- the place of the last record that is marked
+abbrev pub last_mark : Option Marker → Option Marker → Option ℕ
+last_mark (Some m) (Some f) = Some (max m.place f.place)
+last_mark (Some m) None = Some m.place
+last_mark None (Some f) = Some f.place
+last_mark None None = None
 
 -- so many places are a page
 abbrev pub page : ℕ
 page = 32
 
--- The wave ends a page behind the record at fault, so that the fault can stand at the left of a screen.
-abbrev pub page_behind : Option Marker → ℕ → List ℕ
-page_behind (Some m) place = if place == m.place then time (min (place + page) (2 ^ 64 - 1)) (codes "0") else []
-page_behind None place = []
+abbrev pub page_end : Option Clock → ℕ → List ℕ
+page_end None place = time (min (place + page) (2 ^ 64 - 1)) (codes "0")
+page_end (Some clock) place = time (min (at_of clock place + clock.page) (2 ^ 64 - 1)) []
 
--- The time of the first record that is shown stands in the head.
-abbrev pub begin_time : View → ℕ → List ℕ
-begin_time view place = if place == view.from then [] else time place (codes "0")
+-- The wave ends a page behind the last record that is marked, so that it can stand at the left of a screen.
+abbrev pub page_behind : Option Clock → Option ℕ → ℕ → List ℕ
+page_behind times (Some last) place = if place == last then page_end times place else []
+page_behind times None place = []
+
+-- Without times, that of the first record that is shown stands in the head. With them, the word that the signal has is
+-- taken away a picosecond before.
+abbrev pub begin_time : Option Clock → View → ℕ → Signal → List ℕ
+begin_time None view place signal = if place == view.from then [] else time place (codes "0")
+begin_time (Some clock) view place signal =
+    time (at_of clock place - 1) [] ++ (text_change [] signal ++ time (at_of clock place) [])
+
+-- Without times, a record has one nanosecond, and its word is taken away before the next one.
+abbrev pub word_end : Option Clock → ℕ → Signal → List ℕ
+word_end None place signal = time place (codes "9") ++ text_change [] signal
+word_end (Some clock) place signal = []
 
 -- A record begins at its place, with what is told of its time, where these registers of each level are held before it.
-abbrev pub beginning : View → ℕ → List ℕ → List HeldRegister → List HeldRegister → Record → List ℕ
-beginning view place told level1 level2 r =
-    begin_time view place ++ (told ++ fill_changes view level1 level2 r.bank r.event)
+abbrev pub beginning : Option Clock → View → ℕ → List ℕ → List HeldRegister → List HeldRegister → Record → List ℕ
+beginning times view place told level1 level2 r =
+    begin_time times view place (event_signal r.log r.bank r.event)
+    ++ (told ++ fill_changes view level1 level2 r.bank r.event)
 
--- The rest of it, where these tags are busy, these registers are held and this goes between the levels after it. It
--- has one nanosecond, and its word is taken away before the next one.
-abbrev pub moment : View → ℕ → List BusyTag → List HeldRegister → List HeldRegister → Flows → Record → List ℕ
-moment view place busy level1 level2 flows r =
-    standing view place busy level1 level2 flows ++ (mark view.marker place
+-- The rest of it, where these tags are busy, these registers are held and this goes between the levels after it.
+abbrev pub moment : Option Clock → View → ℕ → List BusyTag → List HeldRegister → List HeldRegister → Flows → Record
+    → List ℕ
+moment times view place busy level1 level2 flows r =
+    standing view place busy level1 level2 flows ++ (marks view place
     ++ (record_changes view busy r
     ++ (register_changes view level1 level2 r.bank r.event
     ++ (traffic_changes r.bank (counts_of (flow_at flows.banks r.bank)) r.event
-    ++ (time place (codes "9") ++ (text_change [] (event_signal r.log r.bank r.event)
-    ++ page_behind view.marker place))))))
+    ++ (word_end times place (event_signal r.log r.bank r.event)
+    ++ page_behind times (last_mark view.marker view.first) place)))))
 
 abbrev pub is_shown : View → ℕ → Bool
 is_shown view place = nat_le view.from place && nat_le place view.to
 
-abbrev pub begun : View → ℕ → List ℕ → List HeldRegister → List HeldRegister → Record → List ℕ
-begun view place told level1 level2 r = if is_shown view place then beginning view place told level1 level2 r else []
+abbrev pub begun : Option Clock → View → ℕ → List ℕ → List HeldRegister → List HeldRegister → Record → List ℕ
+begun times view place told level1 level2 r =
+    if is_shown view place then beginning times view place told level1 level2 r else []
 
-abbrev pub shown : View → ℕ → List BusyTag → List HeldRegister → List HeldRegister → Flows → Record → List ℕ
-shown view place busy level1 level2 flows r =
-    if is_shown view place then moment view place busy level1 level2 flows r else []
+abbrev pub shown : Option Clock → View → ℕ → List BusyTag → List HeldRegister → List HeldRegister → Flows → Record
+    → List ℕ
+shown times view place busy level1 level2 flows r =
+    if is_shown view place then moment times view place busy level1 level2 flows r else []
 
 -- how far a wave is drawn: what it shows, how many records there were, how many of each log, and after them the tags
 -- that are busy, the registers of each level that are held, and what goes between the levels
@@ -308,17 +347,17 @@ drawn_after wave [] = wave
 drawn_after wave (r ∷ records) = drawn_after (next wave r) records
 
 -- what is told of the time of the record that comes next
-abbrev pub next_told : Option Times → Drawn → Record → List ℕ
+abbrev pub next_told : Option Clock → Drawn → Record → List ℕ
 next_told times wave r = told_time times r.log (came_of wave.counts r.log)
 
 -- the wave of the record that comes next
-abbrev pub next_shown : Option Times → Drawn → Record → List ℕ
+abbrev pub next_shown : Option Clock → Drawn → Record → List ℕ
 next_shown times wave r =
-    begun wave.view wave.place (next_told times wave r) wave.level1 wave.level2 r
-    ++ shown wave.view wave.place (next wave r).busy
+    begun times wave.view wave.place (next_told times wave r) wave.level1 wave.level2 r
+    ++ shown times wave.view wave.place (next wave r).busy
     (next wave r).level1 (next wave r).level2 (next wave r).flows r
 
 -- the wave of these records, from here on, with these times
-abbrev pub wave_from : Option Times → Drawn → List Record → List ℕ
+abbrev pub wave_from : Option Clock → Drawn → List Record → List ℕ
 wave_from times wave [] = []
 wave_from times wave (r ∷ records) = next_shown times wave r ++ wave_from times (next wave r) records

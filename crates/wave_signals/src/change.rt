@@ -5,6 +5,7 @@ ghost use Rattle.wave_signals.specs.Signals.{bit_text, bit_change, number_change
 ghost use Rattle.wave_signals.specs.Signals.{busy_change};
 ghost use Rattle.wave_signals.specs.Signals.{held_change, free_change, freed_change};
 
+use crate::each::Numbered;
 use crate::registers::{HeldRegister, Level};
 use crate::signal::Signal;
 use std::fmt;
@@ -193,6 +194,14 @@ impl fmt::Display for FreeChange {
         };
         let targets = NumberChange::new(0, signal);
         write!(f, "{block}{targets}")
+    }
+}
+
+impl Numbered<u16> for FreeChange {
+    ghost text_at = { λ p. free_change p.level p.bank };
+
+    fn at(self, register: u16) -> Self {
+        FreeChange { register, ..self }
     }
 }
 

@@ -1,18 +1,17 @@
 //! The head of a wave: its scopes, its signals, and their first values.
 
 ghost use Rattle.std.specs.Prelude.{◌≡◌, Some};
-ghost use Rattle.wave_signals.specs.Head.{scope_begin, scope_end, port_scope, port_scopes, bank_scope, bank_scopes};
-ghost use Rattle.wave_signals.specs.Head.{scopes};
-ghost use Rattle.wave_signals.specs.Head.{tag_starts, port_start, port_starts, bank_starts, fault_start, start};
-ghost use Rattle.wave_signals.specs.Head.{port_values, bank_values, register_values, traffic_values};
-ghost use Rattle.wave_signals.specs.Head.{held_variable, targets_variable, register_variable, register_variables};
-ghost use Rattle.wave_signals.specs.Head.{no_counts, register_starts, bank_start};
-ghost use Rattle.wave_signals.specs.Head.{tag_variable, tag_variables, time_variable, time_start, head_text};
+ghost use Rattle.wave_signals.specs.Head.{scope_begin, scope_end, port_values, port_scope, bank_values, bank_scope};
+ghost use Rattle.wave_signals.specs.Head.{register_values, traffic_values, tag_variable, held_variable};
+ghost use Rattle.wave_signals.specs.Head.{targets_variable, register_variable, time_variable, mark_values, scopes};
+ghost use Rattle.wave_signals.specs.Head.{tag_start, port_start, no_counts, bank_start, time_start, mark_start};
+ghost use Rattle.wave_signals.specs.Head.{start_time, start, timescale, head_text};
 
 use crate::change::{BitChange, FreeChange, NumberChange, TextChange};
-use crate::moment::{FaultNamed, Time};
+use crate::each::{Each, EachByte, Numbered};
+use crate::moment::{Marked, Time};
 use crate::registers::Level;
-use crate::signal::Signal;
+use crate::signal::{Named, Signal};
 use crate::traffic_changes::AllCounts;
 use crate::variable::{NumberVariable, TextVariable};
 use crate::view::{Marker, View};
@@ -64,25 +63,11 @@ impl fmt::Display for TagVariable {
     }
 }
 
-/// Those of the tags of a port.
-#[derive(Clone, Copy)]
-struct TagVariables {
-    port: u8,
-    tags: u16,
-}
+impl Numbered<u16> for TagVariable {
+    ghost text_at = { λ p. tag_variable p.port };
 
-impl fmt::Display for TagVariables {
-    ghost output = { λ v. Some (tag_variables v.tags v.port) };
-
-    fn fmt<W: fmt::Write>(&self, f: &mut fmt::Formatter<W>) -> fmt::Result {
-        for tag in 0..self.tags {
-            let variable = TagVariable {
-                port: self.port,
-                tag,
-            };
-            write!(f, "{variable}")?;
-        }
-        Ok(())
+    fn at(self, tag: u16) -> Self {
+        TagVariable { tag, ..self }
     }
 }
 
@@ -137,31 +122,20 @@ impl fmt::Display for PortScope {
             index: port,
         };
         let values = PortValues { port };
-        let busy = TagVariables { port, tags };
+        let busy = Each {
+            part: TagVariable { port, tag: 0 },
+            count: tags,
+        };
         let end = ScopeEnd;
         write!(f, "{begin}{values}{busy}{end}")
     }
 }
 
-/// The scopes of all ports.
-#[derive(Clone, Copy)]
-struct PortScopes {
-    tags: u16,
-    ports: u8,
-}
+impl Numbered<u8> for PortScope {
+    ghost text_at = { λ p. port_scope p.tags };
 
-impl fmt::Display for PortScopes {
-    ghost output = { λ s. Some (port_scopes s.tags s.ports) };
-
-    fn fmt<W: fmt::Write>(&self, f: &mut fmt::Formatter<W>) -> fmt::Result {
-        for port in 0..self.ports {
-            let scope = PortScope {
-                tags: self.tags,
-                port,
-            };
-            write!(f, "{scope}")?;
-        }
-        Ok(())
+    fn at(self, port: u8) -> Self {
+        PortScope { port, ..self }
     }
 }
 
@@ -370,28 +344,24 @@ impl fmt::Display for RegisterVariable {
     }
 }
 
-/// Those of the registers of a level.
-#[derive(Clone, Copy)]
-struct RegisterVariables {
-    registers: u16,
-    level: Level,
-    bank: u8,
+impl Numbered<u16> for RegisterVariable {
+    ghost text_at = { λ p. register_variable p.level p.bank };
+
+    fn at(self, register: u16) -> Self {
+        RegisterVariable { register, ..self }
+    }
 }
 
-impl fmt::Display for RegisterVariables {
-    ghost output = { λ v. Some (register_variables v.registers v.level v.bank) };
-
-    fn fmt<W: fmt::Write>(&self, f: &mut fmt::Formatter<W>) -> fmt::Result {
-        for register in 0..self.registers {
-            let variable = RegisterVariable {
-                level: self.level,
-                bank: self.bank,
-                register,
-            };
-            write!(f, "{variable}")?;
-        }
-        Ok(())
-    }
+/// The lines of the registers of a level.
+fn register_variables(count: u16, level: Level, bank: u8) -> Each<RegisterVariable>
+    ensures { result ≡ record { part = record { level = level; bank = bank; register = 0 }; count = count } }
+{
+    let part = RegisterVariable {
+        level,
+        bank,
+        register: 0,
+    };
+    Each { part, count }
 }
 
 /// The scope of a bank.
@@ -413,40 +383,18 @@ impl fmt::Display for BankScope<'_> {
         let values = BankValues { bank };
         let held = RegisterValues { bank };
         let counts = TrafficValues { bank };
-        let level1 = RegisterVariables {
-            registers: view.level1_registers,
-            level: Level::One,
-            bank,
-        };
-        let level2 = RegisterVariables {
-            registers: view.level2_registers,
-            level: Level::Two,
-            bank,
-        };
+        let level1 = register_variables(view.level1_registers, Level::One, bank);
+        let level2 = register_variables(view.level2_registers, Level::Two, bank);
         let end = ScopeEnd;
         write!(f, "{begin}{values}{held}{counts}{level1}{level2}{end}")
     }
 }
 
-/// The scopes of all banks.
-#[derive(Clone, Copy)]
-struct BankScopes<'a> {
-    view: &'a View,
-    banks: u8,
-}
+impl Numbered<u8> for BankScope<'_> {
+    ghost text_at = { λ p. bank_scope p.view.now };
 
-impl fmt::Display for BankScopes<'_> {
-    ghost output = { λ s. Some (bank_scopes s.view.now s.banks) };
-
-    fn fmt<W: fmt::Write>(&self, f: &mut fmt::Formatter<W>) -> fmt::Result {
-        for bank in 0..self.banks {
-            let scope = BankScope {
-                view: self.view,
-                bank,
-            };
-            write!(f, "{scope}")?;
-        }
-        Ok(())
+    fn at(self, bank: u8) -> Self {
+        BankScope { bank, ..self }
     }
 }
 
@@ -471,6 +419,38 @@ impl fmt::Display for TimeVariable {
     }
 }
 
+/// The lines of the signals of the marks.
+#[derive(Clone, Copy)]
+struct MarkValues;
+
+impl fmt::Display for MarkValues {
+    ghost output = { λ _. Some mark_values };
+
+    fn fmt<W: fmt::Write>(&self, f: &mut fmt::Formatter<W>) -> fmt::Result {
+        let named = Named::ByVerdict;
+        let fault = NumberVariable {
+            width: 1,
+            signal: Signal::Fault { named },
+            name: "fault",
+        };
+        let rule = TextVariable {
+            signal: Signal::Rule { named },
+            name: "rule",
+        };
+        let named = Named::First;
+        let first_fault = NumberVariable {
+            width: 1,
+            signal: Signal::Fault { named },
+            name: "first_fault",
+        };
+        let first_rule = TextVariable {
+            signal: Signal::Rule { named },
+            name: "first_rule",
+        };
+        write!(f, "{fault}{rule}{first_fault}{first_rule}")
+    }
+}
+
 /// All scopes.
 #[derive(Clone, Copy)]
 struct Scopes<'a> {
@@ -491,50 +471,51 @@ impl fmt::Display for Scopes<'_> {
             banks,
         } = *self;
         let time = TimeVariable { shown: times };
-        let fault = NumberVariable {
-            width: 1,
-            signal: Signal::Fault,
-            name: "fault",
+        let marks = MarkValues;
+        let ports = EachByte {
+            part: PortScope {
+                tags: view.tags,
+                port: 0,
+            },
+            count: ports,
         };
-        let rule = TextVariable {
-            signal: Signal::Rule,
-            name: "rule",
+        let banks = EachByte {
+            part: BankScope { view, bank: 0 },
+            count: banks,
         };
-        let ports = PortScopes {
-            tags: view.tags,
-            ports,
-        };
-        let banks = BankScopes { view, banks };
         let end = ScopeEnd;
         write!(
             f,
-            "$scope module score $end\n{time}{fault}{rule}{ports}{banks}{end}"
+            "$scope module score $end\n{time}{marks}{ports}{banks}{end}"
         )
     }
 }
 
-/// The tags of a port, all free.
+/// A tag of a port, which is free.
 #[derive(Clone, Copy)]
-struct TagStarts {
+struct TagStart {
     port: u8,
-    tags: u16,
+    tag: u16,
 }
 
-impl fmt::Display for TagStarts {
-    ghost output = { λ s. Some (tag_starts s.tags s.port) };
+impl fmt::Display for TagStart {
+    ghost output = { λ s. Some (tag_start s.port s.tag) };
 
     fn fmt<W: fmt::Write>(&self, f: &mut fmt::Formatter<W>) -> fmt::Result {
-        for tag in 0..self.tags {
-            let free = BitChange {
-                up: false,
-                signal: Signal::Busy {
-                    port: self.port,
-                    tag,
-                },
-            };
-            write!(f, "{free}")?;
-        }
-        Ok(())
+        let TagStart { port, tag } = *self;
+        let free = BitChange {
+            up: false,
+            signal: Signal::Busy { port, tag },
+        };
+        write!(f, "{free}")
+    }
+}
+
+impl Numbered<u16> for TagStart {
+    ghost text_at = { λ p. tag_start p.port };
+
+    fn at(self, tag: u16) -> Self {
+        TagStart { tag, ..self }
     }
 }
 
@@ -555,54 +536,19 @@ impl fmt::Display for PortStart {
             signal: Signal::PortEvent { port },
         };
         let none = NumberChange::new(0, Signal::Outstanding { port });
-        let free = TagStarts { port, tags };
+        let free = Each {
+            part: TagStart { port, tag: 0 },
+            count: tags,
+        };
         write!(f, "{word}{none}{free}")
     }
 }
 
-/// All ports at first.
-#[derive(Clone, Copy)]
-struct PortStarts {
-    tags: u16,
-    ports: u8,
-}
+impl Numbered<u8> for PortStart {
+    ghost text_at = { λ p. port_start p.tags };
 
-impl fmt::Display for PortStarts {
-    ghost output = { λ s. Some (port_starts s.tags s.ports) };
-
-    fn fmt<W: fmt::Write>(&self, f: &mut fmt::Formatter<W>) -> fmt::Result {
-        for port in 0..self.ports {
-            let start = PortStart {
-                tags: self.tags,
-                port,
-            };
-            write!(f, "{start}")?;
-        }
-        Ok(())
-    }
-}
-
-/// The registers of a level, all free.
-#[derive(Clone, Copy)]
-struct RegisterStarts {
-    registers: u16,
-    level: Level,
-    bank: u8,
-}
-
-impl fmt::Display for RegisterStarts {
-    ghost output = { λ s. Some (register_starts s.registers s.level s.bank) };
-
-    fn fmt<W: fmt::Write>(&self, f: &mut fmt::Formatter<W>) -> fmt::Result {
-        for register in 0..self.registers {
-            let free = FreeChange {
-                level: self.level,
-                bank: self.bank,
-                register,
-            };
-            write!(f, "{free}")?;
-        }
-        Ok(())
+    fn at(self, port: u8) -> Self {
+        PortStart { port, ..self }
     }
 }
 
@@ -616,6 +562,18 @@ fn no_counts() -> Counts
         dirty1: 0,
         dirty2: 0,
     }
+}
+
+/// The registers of a level, all free.
+fn register_starts(count: u16, level: Level, bank: u8) -> Each<FreeChange>
+    ensures { result ≡ record { part = record { level = level; bank = bank; register = 0 }; count = count } }
+{
+    let part = FreeChange {
+        level,
+        bank,
+        register: 0,
+    };
+    Each { part, count }
 }
 
 /// A bank with no record yet and no register held.
@@ -636,45 +594,23 @@ impl fmt::Display for BankStart<'_> {
         };
         let level = Level::One;
         let none1 = NumberChange::new(0, Signal::InUse { level, bank });
-        let free1 = RegisterStarts {
-            registers: view.level1_registers,
-            level,
-            bank,
-        };
+        let free1 = register_starts(view.level1_registers, level, bank);
         let counts = AllCounts {
             bank,
             counts: no_counts(),
         };
         let level = Level::Two;
         let none2 = NumberChange::new(0, Signal::InUse { level, bank });
-        let free2 = RegisterStarts {
-            registers: view.level2_registers,
-            level,
-            bank,
-        };
+        let free2 = register_starts(view.level2_registers, level, bank);
         write!(f, "{word}{none1}{none2}{counts}{free1}{free2}")
     }
 }
 
-/// All banks at first.
-#[derive(Clone, Copy)]
-struct BankStarts<'a> {
-    view: &'a View,
-    banks: u8,
-}
+impl Numbered<u8> for BankStart<'_> {
+    ghost text_at = { λ p. bank_start p.view.now };
 
-impl fmt::Display for BankStarts<'_> {
-    ghost output = { λ s. Some (bank_starts s.view.now s.banks) };
-
-    fn fmt<W: fmt::Write>(&self, f: &mut fmt::Formatter<W>) -> fmt::Result {
-        for bank in 0..self.banks {
-            let start = BankStart {
-                view: self.view,
-                bank,
-            };
-            write!(f, "{start}")?;
-        }
-        Ok(())
+    fn at(self, bank: u8) -> Self {
+        BankStart { bank, ..self }
     }
 }
 
@@ -699,31 +635,63 @@ impl fmt::Display for TimeStart {
     }
 }
 
-/// The fault, where the record at fault is before the first one that is shown.
+/// A mark, where the record that is marked is before the first one that is shown.
 #[derive(Clone, Copy)]
-struct FaultStart<'a> {
-    view: &'a View,
+struct MarkStart {
+    named: Named,
+    marker: Option<Marker>,
+    from: u64,
 }
 
-impl fmt::Display for FaultStart<'_> {
-    ghost output = { λ s. Some (fault_start s.view.now.marker s.view.now.from) };
+impl fmt::Display for MarkStart {
+    ghost output = { λ s. Some (mark_start s.named s.marker s.from) };
 
     fn fmt<W: fmt::Write>(&self, f: &mut fmt::Formatter<W>) -> fmt::Result {
-        if let Some(Marker { place, rule }) = self.view.marker {
-            if place < self.view.from {
-                let named = FaultNamed { rule };
-                return write!(f, "{named}");
+        let MarkStart {
+            named,
+            marker,
+            from,
+        } = *self;
+        if let Some(Marker { place, why }) = marker {
+            if place < from {
+                let marked = Marked { named, why };
+                return write!(f, "{marked}");
             }
         }
         let fine = BitChange {
             up: false,
-            signal: Signal::Fault,
+            signal: Signal::Fault { named },
         };
         let rule = TextChange {
             text: "",
-            signal: Signal::Rule,
+            signal: Signal::Rule { named },
         };
         write!(f, "{fine}{rule}")
+    }
+}
+
+/// The time of the values before the first record that is shown.
+#[derive(Clone, Copy)]
+struct StartTime {
+    times: bool,
+    from: u64,
+}
+
+impl fmt::Display for StartTime {
+    ghost output = { λ s. Some (start_time s.times s.from) };
+
+    fn fmt<W: fmt::Write>(&self, f: &mut fmt::Formatter<W>) -> fmt::Result {
+        let StartTime { times, from } = *self;
+        if times {
+            let begin = Time::at(0);
+            write!(f, "{begin}")
+        } else {
+            let begin = Time {
+                count: from,
+                tenth: "0",
+            };
+            write!(f, "{begin}")
+        }
     }
 }
 
@@ -740,22 +708,48 @@ impl fmt::Display for Start<'_> {
     ghost output = { λ s. Some (start s.times s.view.now s.ports s.banks) };
 
     fn fmt<W: fmt::Write>(&self, f: &mut fmt::Formatter<W>) -> fmt::Result {
-        let begin = Time {
-            place: self.view.from,
-            tenth: "0",
+        let from = self.view.from;
+        let begin = StartTime {
+            times: self.times,
+            from,
         };
         let time = TimeStart { shown: self.times };
-        let fault = FaultStart { view: self.view };
-        let ports = PortStarts {
-            tags: self.view.tags,
-            ports: self.ports,
+        let fault = MarkStart {
+            named: Named::ByVerdict,
+            marker: self.view.marker,
+            from,
         };
-        let banks = BankStarts {
-            view: self.view,
-            banks: self.banks,
+        let first = MarkStart {
+            named: Named::First,
+            marker: self.view.first,
+            from,
         };
-        write!(f, "{begin}$dumpvars\n{time}{fault}{ports}{banks}$end\n")
+        let ports = EachByte {
+            part: PortStart {
+                tags: self.view.tags,
+                port: 0,
+            },
+            count: self.ports,
+        };
+        let banks = EachByte {
+            part: BankStart {
+                view: self.view,
+                bank: 0,
+            },
+            count: self.banks,
+        };
+        write!(
+            f,
+            "{begin}$dumpvars\n{time}{fault}{first}{ports}{banks}$end\n"
+        )
     }
+}
+
+/// What a time counts.
+fn timescale(times: bool) -> &'static str
+    ensures { result.now ≡ timescale times }
+{
+    if times { "1 ps" } else { "100 ps" }
 }
 
 /// The head of the wave of a trace with so many ports and banks.
@@ -790,9 +784,10 @@ impl fmt::Display for Head<'_> {
             ports,
             banks,
         };
+        let timescale = timescale(times);
         write!(
             f,
-            "$timescale 100 ps $end\n{scopes}$enddefinitions $end\n{start}"
+            "$timescale {timescale} $end\n{scopes}$enddefinitions $end\n{start}"
         )
     }
 }

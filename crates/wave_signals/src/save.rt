@@ -1,14 +1,16 @@
 //! The file of signals that GTKWave opens beside a wave.
 
 ghost use Rattle.std.specs.Prelude.{◌≡◌, Some};
-ghost use Rattle.wave_signals.specs.Save.{port_row, bank_row, title, tag_row, tag_rows, port_rows, all_port_rows};
-ghost use Rattle.wave_signals.specs.Save.{bank_rows, bank_request_rows, bank_register_rows, bank_traffic_rows};
-ghost use Rattle.wave_signals.specs.Save.{register_row, register_rows, level_rows};
-ghost use Rattle.wave_signals.specs.Save.{all_bank_rows, time_row, opens_at, marked_at, save_text};
+ghost use Rattle.wave_signals.specs.Save.{port_row, bank_row, title, tag_row, port_rows, bank_rows};
+ghost use Rattle.wave_signals.specs.Save.{bank_request_rows, bank_register_rows, bank_traffic_rows, register_row};
+ghost use Rattle.wave_signals.specs.Save.{level_rows, time_row, mark_rows, opens_at, picoseconds, marked_at, zoom};
+ghost use Rattle.wave_signals.specs.Save.{opening, save_text};
 
+use crate::each::{Each, EachByte, Numbered};
 use crate::registers::Level;
 use crate::view::{Marker, View};
 use std::fmt;
+use wave_order::Clock;
 
 /// A signal of a port, and how its values are shown.
 #[derive(Clone, Copy)]
@@ -76,25 +78,11 @@ impl fmt::Display for TagRow {
     }
 }
 
-/// The tags of a port.
-#[derive(Clone, Copy)]
-struct TagRows {
-    tags: u16,
-    port: u8,
-}
+impl Numbered<u16> for TagRow {
+    ghost text_at = { λ p. tag_row p.port };
 
-impl fmt::Display for TagRows {
-    ghost output = { λ r. Some (tag_rows r.tags r.port) };
-
-    fn fmt<W: fmt::Write>(&self, f: &mut fmt::Formatter<W>) -> fmt::Result {
-        for tag in 0..self.tags {
-            let row = TagRow {
-                port: self.port,
-                tag,
-            };
-            write!(f, "{row}")?;
-        }
-        Ok(())
+    fn at(self, tag: u16) -> Self {
+        TagRow { tag, ..self }
     }
 }
 
@@ -134,30 +122,19 @@ impl fmt::Display for PortRows {
             flags: "24",
             name: "outstanding[15:0]",
         };
-        let busy = TagRows { tags, port };
+        let busy = Each {
+            part: TagRow { port, tag: 0 },
+            count: tags,
+        };
         write!(f, "{title}{event}{tag}{address}{outstanding}{busy}")
     }
 }
 
-/// The signals of all ports.
-#[derive(Clone, Copy)]
-struct AllPortRows {
-    tags: u16,
-    ports: u8,
-}
+impl Numbered<u8> for PortRows {
+    ghost text_at = { λ p. port_rows p.tags };
 
-impl fmt::Display for AllPortRows {
-    ghost output = { λ r. Some (all_port_rows r.tags r.ports) };
-
-    fn fmt<W: fmt::Write>(&self, f: &mut fmt::Formatter<W>) -> fmt::Result {
-        for port in 0..self.ports {
-            let rows = PortRows {
-                tags: self.tags,
-                port,
-            };
-            write!(f, "{rows}")?;
-        }
-        Ok(())
+    fn at(self, port: u8) -> Self {
+        PortRows { port, ..self }
     }
 }
 
@@ -200,6 +177,14 @@ impl fmt::Display for BankRows<'_> {
             f,
             "{title}{event}{number}{block}{request}{held}{counts}{registers}"
         )
+    }
+}
+
+impl Numbered<u8> for BankRows<'_> {
+    ghost text_at = { λ p. bank_rows p.view.now };
+
+    fn at(self, bank: u8) -> Self {
+        BankRows { bank, ..self }
     }
 }
 
@@ -318,27 +303,11 @@ impl fmt::Display for RegisterRow {
     }
 }
 
-/// The registers of a level of a bank.
-#[derive(Clone, Copy)]
-struct RegisterRows {
-    registers: u16,
-    level: Level,
-    bank: u8,
-}
+impl Numbered<u16> for RegisterRow {
+    ghost text_at = { λ p. register_row p.level p.bank };
 
-impl fmt::Display for RegisterRows {
-    ghost output = { λ r. Some (register_rows r.registers r.level r.bank) };
-
-    fn fmt<W: fmt::Write>(&self, f: &mut fmt::Formatter<W>) -> fmt::Result {
-        for register in 0..self.registers {
-            let row = RegisterRow {
-                level: self.level,
-                bank: self.bank,
-                register,
-            };
-            write!(f, "{row}")?;
-        }
-        Ok(())
+    fn at(self, register: u16) -> Self {
+        RegisterRow { register, ..self }
     }
 }
 
@@ -354,43 +323,44 @@ impl fmt::Display for LevelRows<'_> {
 
     fn fmt<W: fmt::Write>(&self, f: &mut fmt::Formatter<W>) -> fmt::Result {
         let LevelRows { view, bank } = *self;
-        let level1 = RegisterRows {
-            registers: view.level1_registers,
+        let level1 = RegisterRow {
             level: Level::One,
             bank,
+            register: 0,
         };
-        let level2 = RegisterRows {
-            registers: view.level2_registers,
+        let level1 = Each {
+            part: level1,
+            count: view.level1_registers,
+        };
+        let level2 = RegisterRow {
             level: Level::Two,
             bank,
+            register: 0,
+        };
+        let level2 = Each {
+            part: level2,
+            count: view.level2_registers,
         };
         write!(f, "{level1}{level2}")
     }
 }
 
-/// The signals of all banks.
+/// The signals of the marks.
 #[derive(Clone, Copy)]
-struct AllBankRows<'a> {
-    view: &'a View,
-    banks: u8,
-}
+struct MarkRows;
 
-impl fmt::Display for AllBankRows<'_> {
-    ghost output = { λ r. Some (all_bank_rows r.view.now r.banks) };
+impl fmt::Display for MarkRows {
+    ghost output = { λ _. Some mark_rows };
 
     fn fmt<W: fmt::Write>(&self, f: &mut fmt::Formatter<W>) -> fmt::Result {
-        for bank in 0..self.banks {
-            let rows = BankRows {
-                view: self.view,
-                bank,
-            };
-            write!(f, "{rows}")?;
-        }
-        Ok(())
+        write!(
+            f,
+            "@28\nscore.fault\n@820\nscore.rule\n@28\nscore.first_fault\n@820\nscore.first_rule\n"
+        )
     }
 }
 
-/// The place of the first record on the screen: a few before the one at fault.
+/// The place of the first record on the screen: a few before the one that the verdict names.
 fn opens_at(view: &View) -> u64
     ensures { result ≡ opens_at view.now }
 {
@@ -400,38 +370,112 @@ fn opens_at(view: &View) -> u64
     }
 }
 
-/// The time of the marker in picoseconds, or that there is none.
+/// Where a place is on the axis, in picoseconds.
 #[derive(Clone, Copy)]
-struct MarkedAt {
+struct Picoseconds<'a> {
+    times: &'a Option<Clock>,
+    place: u64,
+}
+
+impl fmt::Display for Picoseconds<'_> {
+    ghost output = { λ p. Some (picoseconds p.times.now p.place) };
+
+    fn fmt<W: fmt::Write>(&self, f: &mut fmt::Formatter<W>) -> fmt::Result {
+        let Picoseconds { times, place } = *self;
+        let Some(clock) = times else {
+            return write!(f, "{place}000");
+        };
+        let at = clock.at(place);
+        write!(f, "{at}")
+    }
+}
+
+/// Where a mark is, or that there is none.
+#[derive(Clone, Copy)]
+struct MarkedAt<'a> {
+    times: &'a Option<Clock>,
     marker: Option<Marker>,
 }
 
-impl fmt::Display for MarkedAt {
-    ghost output = { λ m. Some (marked_at m.marker) };
+impl fmt::Display for MarkedAt<'_> {
+    ghost output = { λ m. Some (marked_at m.times.now m.marker) };
 
     fn fmt<W: fmt::Write>(&self, f: &mut fmt::Formatter<W>) -> fmt::Result {
-        match self.marker {
-            Some(Marker { place, .. }) => write!(f, "{place}000"),
-            None => write!(f, "-1"),
-        }
+        let Some(Marker { place, .. }) = self.marker else {
+            return write!(f, "-1");
+        };
+        let at = Picoseconds {
+            times: self.times,
+            place,
+        };
+        write!(f, "{at}")
+    }
+}
+
+/// How much GTKWave shows at once.
+#[derive(Clone, Copy)]
+struct Zoom<'a> {
+    times: &'a Option<Clock>,
+}
+
+impl fmt::Display for Zoom<'_> {
+    ghost output = { λ z. Some (zoom z.times.now) };
+
+    fn fmt<W: fmt::Write>(&self, f: &mut fmt::Formatter<W>) -> fmt::Result {
+        let Some(clock) = self.times else {
+            return write!(f, "10");
+        };
+        let zoom = clock.zoom();
+        write!(f, "{zoom}")
+    }
+}
+
+/// Where GTKWave begins, how much it shows, and its markers.
+#[derive(Clone, Copy)]
+struct Opening<'a> {
+    times: &'a Option<Clock>,
+    view: &'a View,
+}
+
+impl fmt::Display for Opening<'_> {
+    ghost output = { λ o. Some (opening o.times.now o.view.now) };
+
+    fn fmt<W: fmt::Write>(&self, f: &mut fmt::Formatter<W>) -> fmt::Result {
+        let Opening { times, view } = *self;
+        let opens = Picoseconds {
+            times,
+            place: opens_at(view),
+        };
+        let zoom = Zoom { times };
+        let marked = MarkedAt {
+            times,
+            marker: view.marker,
+        };
+        let first = MarkedAt {
+            times,
+            marker: view.first,
+        };
+        write!(
+            f,
+            "[timestart] {opens}\n[size] 1600 900\n*-{zoom}.5 {marked} {first}\n"
+        )
     }
 }
 
 /// The signal of the times, where the wave has it.
 #[derive(Clone, Copy)]
-struct TimeRow {
-    shown: bool,
+struct TimeRow<'a> {
+    times: &'a Option<Clock>,
 }
 
-impl fmt::Display for TimeRow {
-    ghost output = { λ r. Some (time_row r.shown) };
+impl fmt::Display for TimeRow<'_> {
+    ghost output = { λ r. Some (time_row r.times.now) };
 
     fn fmt<W: fmt::Write>(&self, f: &mut fmt::Formatter<W>) -> fmt::Result {
-        if self.shown {
-            write!(f, "@820\nscore.time\n")
-        } else {
-            Ok(())
-        }
+        let Some(_) = self.times else {
+            return Ok(());
+        };
+        write!(f, "@820\nscore.time\n")
     }
 }
 
@@ -439,15 +483,15 @@ impl fmt::Display for TimeRow {
 /// marker, and the signals that it shows.
 #[derive(Clone, Copy)]
 pub struct SaveFile<'a> {
-    /// The wave has the times of the records.
-    pub times: bool,
+    /// The times of the records, where the wave has them.
+    pub times: &'a Option<Clock>,
     pub view: &'a View,
     pub ports: u8,
     pub banks: u8,
 }
 
 impl fmt::Display for SaveFile<'_> {
-    ghost output = { λ s. Some (save_text s.times s.view.now s.ports s.banks) };
+    ghost output = { λ s. Some (save_text s.times.now s.view.now s.ports s.banks) };
 
     fn fmt<W: fmt::Write>(&self, f: &mut fmt::Formatter<W>) -> fmt::Result {
         let SaveFile {
@@ -456,19 +500,23 @@ impl fmt::Display for SaveFile<'_> {
             ports,
             banks,
         } = *self;
-        let opens = opens_at(view);
-        let time = TimeRow { shown: times };
-        let marked = MarkedAt {
-            marker: view.marker,
+        let opening = Opening { times, view };
+        let time = TimeRow { times };
+        let marks = MarkRows;
+        let ports = EachByte {
+            part: PortRows {
+                tags: view.tags,
+                port: 0,
+            },
+            count: ports,
         };
-        let ports = AllPortRows {
-            tags: view.tags,
-            ports,
+        let banks = EachByte {
+            part: BankRows { view, bank: 0 },
+            count: banks,
         };
-        let banks = AllBankRows { view, banks };
         write!(
             f,
-            "[timestart] {opens}000\n[size] 1600 900\n*-10.5 {marked}\n[signals_width] 210\n{time}@28\nscore.fault\n@820\nscore.rule\n{ports}{banks}"
+            "{opening}[signals_width] 210\n{time}{marks}{ports}{banks}"
         )
     }
 }

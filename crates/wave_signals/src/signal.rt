@@ -6,13 +6,26 @@ ghost use Rattle.wave_signals.specs.Signals.{block_letter, target_letter, identi
 use crate::registers::Level;
 use std::fmt;
 
+/// Which fault of a trace.
+#[derive(Clone, Copy, PartialEq, Eq)]
+pub enum Named {
+    /// The one that the verdict names.
+    ByVerdict,
+    /// What broke first.
+    First,
+}
+
 /// A signal of a wave. Its text is its identifier in the file.
 #[derive(Clone, Copy, PartialEq, Eq)]
 pub enum Signal {
     /// The record that is at fault has come.
-    Fault,
-    /// The rule that it breaks.
-    Rule,
+    Fault {
+        named: Named,
+    },
+    /// The rule that it breaks, or why there is none.
+    Rule {
+        named: Named,
+    },
     /// The time of the record.
     Time,
     /// The word of the port's record.
@@ -117,8 +130,18 @@ impl fmt::Display for Signal {
 
     fn fmt<W: fmt::Write>(&self, f: &mut fmt::Formatter<W>) -> fmt::Result {
         match self {
-            Signal::Fault => write!(f, "f"),
-            Signal::Rule => write!(f, "r"),
+            Signal::Fault {
+                named: Named::ByVerdict,
+            } => write!(f, "f"),
+            Signal::Fault {
+                named: Named::First,
+            } => write!(f, "ff"),
+            Signal::Rule {
+                named: Named::ByVerdict,
+            } => write!(f, "r"),
+            Signal::Rule {
+                named: Named::First,
+            } => write!(f, "fr"),
             Signal::Time => write!(f, "t"),
             Signal::PortEvent { port } => write!(f, "p{port}e"),
             Signal::PortTag { port } => write!(f, "p{port}i"),

@@ -5,8 +5,8 @@ ghost use Rattle.std.specs.Option.{option_map};
 ghost use Rattle.wave_signals.specs.Times.{is_plain, escaped_byte, escaped, time_text, told_time};
 
 use crate::signal::Signal;
-use explain_lines::Times;
 use std::fmt;
+use wave_order::Clock;
 
 /// Whether a byte stands as it is. A blank would end the text, and a backslash stands before an escape.
 fn is_plain(byte: u8) -> bool
@@ -68,7 +68,7 @@ impl fmt::Display for TimeText<'_> {
 /// The time that the map tells of the record at a place of a log, where there is a map.
 #[derive(Clone, Copy)]
 pub struct ToldTime<'a> {
-    pub times: &'a Option<Times>,
+    pub times: &'a Option<Clock>,
     pub log: u8,
     pub place: u64,
 }
@@ -77,11 +77,11 @@ impl fmt::Display for ToldTime<'_> {
     ghost output = { λ t. Some (told_time t.times.now t.log t.place) };
 
     fn fmt<W: fmt::Write>(&self, f: &mut fmt::Formatter<W>) -> fmt::Result {
-        let Some(times) = self.times else {
+        let Some(clock) = self.times else {
             return Ok(());
         };
         let text = TimeText {
-            time: times.of(self.log, self.place),
+            time: clock.of(self.log, self.place),
         };
         let signal = Signal::Time;
         write!(f, "s{text} {signal}\n")

@@ -3,9 +3,10 @@
 ghost use Rattle.std.specs.Prelude.{◌≡◌, Some};
 ghost use Rattle.wave_signals.specs.declared.registers.Level.TheVariants as levels;
 ghost use Rattle.wave_signals.specs.declared.signal.Signal.TheVariants as signals;
-ghost use Rattle.wave_signals.specs.Wave.{all_counts, traffic_changes, standing_count, standing_counts};
+ghost use Rattle.wave_signals.specs.Wave.{all_counts, traffic_changes, standing_count};
 
 use crate::change::NumberChange;
+use crate::each::Numbered;
 use crate::registers::Level;
 use crate::signal::Signal;
 use lf_rules::{Event, Record};
@@ -91,9 +92,9 @@ impl fmt::Display for TrafficChanges<'_> {
 
 /// The counts of a bank where the wave begins.
 #[derive(Clone, Copy)]
-struct StandingCount<'a> {
-    bank: u8,
-    traffic: &'a Traffic,
+pub struct StandingCount<'a> {
+    pub bank: u8,
+    pub traffic: &'a Traffic,
 }
 
 impl fmt::Display for StandingCount<'_> {
@@ -108,24 +109,10 @@ impl fmt::Display for StandingCount<'_> {
     }
 }
 
-/// Those of each of the first banks.
-#[derive(Clone, Copy)]
-pub struct StandingCounts<'a> {
-    pub banks: u8,
-    pub traffic: &'a Traffic,
-}
+impl Numbered<u8> for StandingCount<'_> {
+    ghost text_at = { λ p. standing_count p.traffic.now };
 
-impl fmt::Display for StandingCounts<'_> {
-    ghost output = { λ s. Some (standing_counts s.banks s.traffic.now) };
-
-    fn fmt<W: fmt::Write>(&self, f: &mut fmt::Formatter<W>) -> fmt::Result {
-        for bank in 0..self.banks {
-            let standing = StandingCount {
-                bank,
-                traffic: self.traffic,
-            };
-            write!(f, "{standing}")?;
-        }
-        Ok(())
+    fn at(self, bank: u8) -> Self {
+        StandingCount { bank, ..self }
     }
 }

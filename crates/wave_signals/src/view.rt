@@ -1,22 +1,53 @@
 //! What a wave shows.
 
-ghost use Rattle.std.specs.Prelude.{◌≡◌, min};
+ghost use Rattle.std.specs.Prelude.{◌≡◌, min, Some};
 ghost use Rattle.lf_rules.specs.Registers.{registers_of};
 ghost use Rattle.wave_signals.specs.Shapes.{most_registers, whole};
-ghost use Rattle.wave_signals.specs.Wave.{is_shown};
+ghost use Rattle.wave_signals.specs.Wave.{why_text, is_fault, last_mark, is_shown};
 
 use lf_rules::{OrgShape, Rule, Shape};
+use std::fmt;
 
 /// So many registers of a level have signals at most.
 const MOST_REGISTERS: u16 = 64;
 
-/// The record at fault.
+/// Why a record is marked.
+#[derive(Clone, Copy, PartialEq, Eq)]
+pub enum Why {
+    /// It breaks this rule.
+    Rule(Rule),
+    /// Behind it no record can come.
+    Stop,
+}
+
+impl Why {
+    /// Whether the record is at fault.
+    pub(crate) fn is_fault(self) -> bool
+        ensures { result ≡ is_fault self }
+    {
+        match self {
+            Why::Rule(_) => true,
+            Why::Stop => false,
+        }
+    }
+}
+
+impl fmt::Display for Why {
+    ghost output = { λ why. Some (why_text why) };
+
+    fn fmt<W: fmt::Write>(&self, f: &mut fmt::Formatter<W>) -> fmt::Result {
+        match self {
+            Why::Rule(rule) => write!(f, "{rule}"),
+            Why::Stop => write!(f, "no_next_record"),
+        }
+    }
+}
+
+/// A record that is marked.
 #[derive(Clone, Copy, PartialEq, Eq)]
 pub struct Marker {
-    /// Its place.
     pub place: u64,
-    /// The rule that it breaks.
-    pub rule: Rule,
+    pub why: Why,
 }
 
 /// What a wave shows. A record's place is the number of records that come before it in the order of the wave.
@@ -38,8 +69,10 @@ pub struct View {
     pub block: u32,
     /// The blocks of a second-level block.
     pub factor: u32,
-    /// The record at fault, where there is one.
+    /// The record at fault that the verdict names, or the last one, where no record can come behind it.
     pub marker: Option<Marker>,
+    /// The record that broke a rule first.
+    pub first: Option<Marker>,
 }
 
 /// At most `MOST_REGISTERS`.
@@ -78,6 +111,19 @@ impl View {
             block: shape.block,
             factor: shape.factor,
             marker: None,
+            first: None,
+        }
+    }
+
+    /// The place of the last record that is marked.
+    pub(crate) fn last_mark(&self) -> Option<u64>
+        ensures { result ≡ last_mark self.now.marker self.now.first }
+    {
+        match (self.marker, self.first) {
+            (Some(marker), Some(first)) => Some(marker.place.max(first.place)),
+            (Some(marker), None) => Some(marker.place),
+            (None, Some(first)) => Some(first.place),
+            (None, None) => None,
         }
     }
 

@@ -5,17 +5,16 @@ ghost use Rattle.wave_signals.specs.Head.{head_text};
 ghost use Rattle.wave_signals.specs.Wave.{begun, shown, undrawn, next, next_told, next_shown};
 
 use crate::busy::{BusyTag, apply};
-use crate::counts::Counts;
 use crate::head::Head;
 use crate::moment::{Beginning, Moment};
 use crate::registers::{HeldRegister, apply_level1, apply_level2};
 use crate::told::ToldTime;
 use crate::view::View;
-use explain_lines::Times;
 use lf_codec::Header;
 use lf_rules::Record;
 use std::alloc::{AllocError, Global};
 use std::marker::Model;
+use wave_order::{Clock, Counts};
 use wave_traffic::Traffic;
 
 /// What the wave of a record rests on: how many records stand before it, and how many in its log, which tags are busy
@@ -32,8 +31,6 @@ pub struct Wave {
 }
 
 impl Model for Wave {
-    ghost use Rattle.std.specs.Prelude.{ℕ, ◌≤◌};
-    ghost use Rattle.wave_signals.specs.Times.{came_of};
     ghost use Rattle.wave_signals.specs.Wave.{Drawn};
 
     ghost Value = { Drawn };
@@ -47,8 +44,6 @@ impl Model for Wave {
       level2 = w.level2.items;
       flows = w.traffic;
     } };
-
-    ghost invariant = { λ w. (log : ℕ) → came_of w.counts.0 log ≤ w.place };
 }
 
 impl Wave {
@@ -91,12 +86,12 @@ impl Wave {
     /// Puts the beginning of a record before it changes the registers.
     fn begin(
         &self,
-        times: &Option<Times>,
+        times: &Option<Clock>,
         item: &Record,
         text: &mut String,
     ) -> Result<(), AllocError>
-        ensures { OnOk result (string_bytes text.new ≡
-            string_bytes text.old ++ begun self.now.view self.now.place (next_told times.now self.now item.now)
+        ensures { OnOk result (string_bytes text.new ≡ string_bytes text.old
+            ++ begun times.now self.now.view self.now.place (next_told times.now self.now item.now)
             self.now.level1 self.now.level2 item.now) }
     {
         if self.view.shows(self.place) {
@@ -120,13 +115,19 @@ impl Wave {
     }
 
     /// Puts the rest of a record that has changed the busy tags and the registers.
-    fn show(&self, item: &Record, text: &mut String) -> Result<(), AllocError>
+    fn show(
+        &self,
+        times: &Option<Clock>,
+        item: &Record,
+        text: &mut String,
+    ) -> Result<(), AllocError>
         ensures { OnOk result (string_bytes text.new ≡
-            string_bytes text.old ++ shown self.now.view self.now.place self.now.busy
+            string_bytes text.old ++ shown times.now self.now.view self.now.place self.now.busy
             self.now.level1 self.now.level2 self.now.flows item.now) }
     {
         if self.view.shows(self.place) {
             let moment = Moment {
+                times,
                 view: &self.view,
                 place: self.place,
                 busy: &self.busy,
@@ -142,10 +143,10 @@ impl Wave {
     }
 
     /// Takes the next record of the trace, and puts what is shown of it behind the text. Where there are times, its
-    /// time is the one for its log and its place there.
+    /// time is the one for its log and its place there, and it is where the clock has its place in the wave.
     pub fn put(
         &mut self,
-        times: &Option<Times>,
+        times: &Option<Clock>,
         item: &Record,
         text: &mut String,
     ) -> Result<(), AllocError>
@@ -159,7 +160,7 @@ impl Wave {
         apply_level2(&mut self.level2, self.view.factor, item)?;
         apply(&mut self.busy, item)?;
         self.traffic.take(item)?;
-        self.show(item, text)?;
+        self.show(times, item, text)?;
         self.counts.take(item.log);
         self.place += 1;
         Ok(())

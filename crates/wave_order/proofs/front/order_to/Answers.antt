@@ -8,16 +8,18 @@ use Rattle.wave_order.proofs.front.order_to.Goals as goal
 pub returns-then-is : goal.returns-then-is
 returns-then-is c records has =
     let sought = c.args.sought in
+    let times = c.args.times.now in
     let order = c.loop-entry.logs.items in
     let going = c.loop-entry.invariant.going records has in
-    let comes = c.in-Some.ensures.lowest (in_order order records) (left_by order records) going.left in
-    subst (λ (os : List ℕ). IsOrderTo sought records os true) (sym c.in_ok-push.ensures.items)
-    (ends_here sought c.loop-entry.left c.take.new.self order c.loop-entry.before records going c.in-Some.entry comes
+    let comes = c.in-Some.ensures.first (in_order order records) (left_by order records) going.left in
+    subst (λ (os : List ℕ). IsOrderTo times sought records os true) (sym c.in_ok-push.ensures.items)
+    (ends_here times sought c.loop-entry.left c.take.new.self order c.loop-entry.before records going c.in-Some.entry comes
     (sym c.if-is.ensures))
 
 pub loop-entry-preserved-then-counts : goal.loop-entry-preserved-then-counts
 loop-entry-preserved-then-counts c =
     let sought = c.args.sought in
+    let times = c.args.times.now in
     let order = c.loop-entry.logs.items in
     let before = c.loop-entry.before in
     let longer = ap length c.in_ok-push.ensures.items ∙ length-append order (c.in-Some.entry.log ∷ []) in
@@ -25,16 +27,17 @@ loop-entry-preserved-then-counts c =
       few = omega (arith, c.loop-entry.invariant.few, longer);
       going = λ records has.
           let going = c.loop-entry.invariant.going records has in
-          let comes = c.in-Some.ensures.lowest (in_order order records) (left_by order records) going.left in
-          subst (λ (os : List ℕ). Going sought c.take.new.self os (before + 1) records)
+          let comes = c.in-Some.ensures.first (in_order order records) (left_by order records) going.left in
+          subst (λ (os : List ℕ). Going times sought c.take.new.self os (before + 1) records)
           (sym c.in_ok-push.ensures.items)
-          (goes_on_in_log sought c.loop-entry.left c.take.new.self order before records going c.in-Some.entry comes
+          (goes_on_in_log times sought c.loop-entry.left c.take.new.self order before records going c.in-Some.entry comes
           (sym c.if-counts.ensures));
     }
 
 pub loop-entry-preserved : goal.loop-entry-preserved
 loop-entry-preserved c =
     let sought = c.args.sought in
+    let times = c.args.times.now in
     let order = c.loop-entry.logs.items in
     let before = c.loop-entry.before in
     let longer = ap length c.in_ok-push.ensures.items ∙ length-append order (c.in-Some.entry.log ∷ []) in
@@ -42,8 +45,8 @@ loop-entry-preserved c =
       few = omega (arith, c.loop-entry.invariant.few, longer);
       going = λ records has.
           let going = c.loop-entry.invariant.going records has in
-          let comes = c.in-Some.ensures.lowest (in_order order records) (left_by order records) going.left in
-          subst (λ (os : List ℕ). Going sought c.take.new.self os before records) (sym c.in_ok-push.ensures.items)
-          (goes_on_elsewhere sought c.loop-entry.left c.take.new.self order before records going c.in-Some.entry comes
+          let comes = c.in-Some.ensures.first (in_order order records) (left_by order records) going.left in
+          subst (λ (os : List ℕ). Going times sought c.take.new.self os before records) (sym c.in_ok-push.ensures.items)
+          (goes_on_elsewhere times sought c.loop-entry.left c.take.new.self order before records going c.in-Some.entry comes
           (sym c.if-counts.ensures));
     }

@@ -9,7 +9,7 @@ abbrev pub invariant-loop-entry : goal.invariant-loop-entry
 invariant-loop-entry l = record {
   few : l.before ≤ length l.logs.items;
   going : (records : List Record) → HasLeft l.fn.left [] records →
-      Going l.sought l.left l.logs.items l.before records;
+      Going l.times l.sought l.left l.logs.items l.before records;
 }
 
 abbrev pub decreases-loop-entry : goal.decreases-loop-entry

@@ -15,4 +15,6 @@ returns c gone records has =
           c.from-log.ensures c.index_mut.ensures.value (omega (arith, c.in_ok-reach.ensures.reached)) was.each
           c.in_ok-push_back.ensures.items;
       next = was.next;
+      counted = was.counted;
+      came = was.came;
     }

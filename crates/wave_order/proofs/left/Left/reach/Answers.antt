@@ -20,4 +20,6 @@ loop-self-preserved c gone records has =
       each = subst (λ (qs : List Queue). AreOf (map (λ q. q.items) qs) records) (sym more)
           (log_more queues c.new.result records c.new.ensures.items was.each);
       next = was.next;
+      counted = was.counted;
+      came = was.came;
     }

@@ -1,9 +1,0 @@
--- What has been written since the loop began is the part of each number so far.
-use Rattle.std.specs.List.{flat_map, range_with_len}
-use Rattle.std.specs.Fmt.{HasWritten, IsPlainFormatter}
-use Rattle.wave_signals.specs.Wave.{standing_count}
-use Rattle.wave_signals.proofs.traffic_changes.StandingCountsDisplay.fmt.Given as goal
-
-abbrev pub invariant-loop-bank : goal.invariant-loop-bank
-invariant-loop-bank g l = IsPlainFormatter l.initial.f → HasWritten g.W.Write.write_str_gives l.initial.f
-    (flat_map (standing_count l.self.traffic.now) (range_with_len 0 l.bank)) l.f
