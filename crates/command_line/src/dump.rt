@@ -32,7 +32,7 @@ If the bytes are not a trace, the last line says so, after what was read:
   refused memory
 
 Exit status:
-  0  the whole trace is printed
+  0  the whole trace is printed, or its reader wants no more
   2  refused
 
 Examples:

@@ -88,7 +88,7 @@ that what it waits for can be seen:
     of load port=0 bank=0 number=0 tag=0 size=1 address=0x0 ; at 16
 
 and so on for the registers of level two, the blocks that are asked for, those
-that are looked up, and the last events.
+that are supplied, and the last events.
 
 For bytes that are not a trace it prints the part that is wrong, its field,
 the value and what is allowed, and then what broke first in the records before

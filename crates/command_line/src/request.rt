@@ -71,6 +71,14 @@ pub enum Request<'a> {
     },
 }
 
+/// The one of these, where there are not several.
+fn only<'a>(traces: &[&'a str]) -> Option<&'a str> {
+    match traces {
+        [trace] => Some(*trace),
+        _ => None,
+    }
+}
+
 impl<'a> Request<'a> {
     /// The name of the command.
     pub fn name(&self) -> &'static str {
@@ -88,14 +96,14 @@ impl<'a> Request<'a> {
         }
     }
 
-    /// The files that it reads, in the order in which they are read, and of several traces the first.
+    /// The files that it reads, in the order in which they are read, but for several traces.
     pub fn inputs(&self) -> [Option<&'a str>; 3] {
         match *self {
             Request::Check {
                 config,
                 ref traces,
                 ..
-            } => [Some(config), None, traces.first().copied()],
+            } => [Some(config), None, only(traces)],
             Request::Stats { config, trace, .. }
             | Request::Cover { config, trace, .. }
             | Request::Watch { config, trace } => [Some(config), None, Some(trace)],

@@ -2,6 +2,7 @@
 
 use crate::configuration::{bytes_at, bytes_within, text_in};
 use crate::ending::Ending;
+use crate::hint::hint_of_input;
 use crate::progress::{Answer, reader_of};
 use crate::refused;
 use crate::trace::Trace;
@@ -51,10 +52,11 @@ where
     judge(rt, config, reader, answer, u32::from(options.workers))
 }
 
-/// Judges one of several traces. Nothing is told of progress, which would go over the name of the trace.
+/// Judges one of several traces. Nothing is told of progress, which would go over the name of the trace. A terminal is
+/// told below the answer why the file is no input.
 fn check_named<
     T: Print + Eprint + Input + Files + AllocGlobal + Threads + Sync + Send + Copy + 'static,
->(rt: &T, config: &str, trace: &str, options: CheckOptions) -> io::Result<Ending>
+>(rt: &T, config: &str, trace: &str, options: CheckOptions, on_terminal: bool) -> io::Result<Ending>
 where
     T::File: Drop,
 {
@@ -63,19 +65,29 @@ where
         ..options
     };
     print!(rt; "{trace}: ")?;
-    check_trace(rt, config, trace, options, false)
+    let ending = check_trace(rt, config, trace, options, false)?;
+    if on_terminal && matches!(ending, Ending::Refused) {
+        hint_of_input(rt, trace)?;
+    }
+    Ok(ending)
 }
 
 /// Judges each of these traces.
 fn check_each<
     T: Print + Eprint + Input + Files + AllocGlobal + Threads + Sync + Send + Copy + 'static,
->(rt: &T, config: &str, traces: &[&str], options: CheckOptions) -> io::Result<Ending>
+>(
+    rt: &T,
+    config: &str,
+    traces: &[&str],
+    options: CheckOptions,
+    on_terminal: bool,
+) -> io::Result<Ending>
 where
     T::File: Drop,
 {
     let mut ending = Ending::Done;
     for trace in traces {
-        ending = ending.worse(check_named(rt, config, trace, options)?);
+        ending = ending.worse(check_named(rt, config, trace, options, on_terminal)?);
     }
     Ok(ending)
 }
@@ -83,14 +95,20 @@ where
 /// Judges each trace that this text names.
 fn check_lines<
     T: Print + Eprint + Input + Files + AllocGlobal + Threads + Sync + Send + Copy + 'static,
->(rt: &T, config: &str, traces: &str, options: CheckOptions) -> io::Result<Ending>
+>(
+    rt: &T,
+    config: &str,
+    traces: &str,
+    options: CheckOptions,
+    on_terminal: bool,
+) -> io::Result<Ending>
 where
     T::File: Drop,
 {
     let mut ending = Ending::Done;
     for trace in traces.lines() {
         if !trace.is_empty() {
-            ending = ending.worse(check_named(rt, config, trace, options)?);
+            ending = ending.worse(check_named(rt, config, trace, options, on_terminal)?);
         }
     }
     Ok(ending)
@@ -99,13 +117,13 @@ where
 /// Judges the traces of the list at this path.
 fn check_list<
     T: Print + Eprint + Input + Files + AllocGlobal + Threads + Sync + Send + Copy + 'static,
->(rt: &T, config: &str, list: &str, options: CheckOptions) -> io::Result<Ending>
+>(rt: &T, config: &str, list: &str, options: CheckOptions, on_terminal: bool) -> io::Result<Ending>
 where
     T::File: Drop,
 {
     let read = bytes_within(rt.alloc(), Trace::open(rt, list), u32::MAX);
     match text_in(&read) {
-        Ok(traces) => check_lines(rt, config, traces, options),
+        Ok(traces) => check_lines(rt, config, traces, options, on_terminal),
         Err(InputFault::Memory) => refused(rt, InputFault::Memory),
         Err(_) => {
             println!(rt; "refused read list")?;
@@ -138,8 +156,8 @@ where
         Err(why) => return refused(rt, why),
     };
     match traces {
-        [list] if options.list => check_list(rt, text, list, options),
+        [list] if options.list => check_list(rt, text, list, options, on_terminal),
         [trace] => check_trace(rt, text, trace, options, on_terminal),
-        _ => check_each(rt, text, traces, options),
+        _ => check_each(rt, text, traces, options, on_terminal),
     }
 }

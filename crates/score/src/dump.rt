@@ -38,8 +38,10 @@ where
     } else {
         dump_chosen(rt, &mut reader, &mut writer, u32::MAX, choice)
     };
-    writer.inner().ending(match told {
-        Ok(None) => Ending::Done,
-        _ => Ending::Refused,
-    })
+    Ending::unless_unread(
+        writer.inner().ending(match told {
+            Ok(None) => Ending::Done,
+            _ => Ending::Refused,
+        }),
+    )
 }

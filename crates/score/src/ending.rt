@@ -3,6 +3,7 @@
 use lf_verdict::{Conclusion, Outcome};
 use run_engine::RunFault;
 use std::io;
+use std::io::ErrorKind;
 use std::process::ExitCode;
 
 const NO: u8 = 1;
@@ -35,6 +36,14 @@ impl Ending {
             Ok(conclusion) if complete && conclusion.incomplete.is_some() => Ending::No,
             Ok(conclusion) => Ending::of(&conclusion.outcome),
             Err(_) => Ending::Refused,
+        }
+    }
+
+    /// Where nobody reads the rest of what a command prints, its reader has what it wants, and the work is done.
+    pub fn unless_unread(told: io::Result<Ending>) -> io::Result<Ending> {
+        match told {
+            Err(why) if why.kind() == ErrorKind::BrokenPipe => Ok(Ending::Done),
+            told => told,
         }
     }
 

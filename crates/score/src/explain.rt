@@ -6,26 +6,13 @@ use crate::map::times_if;
 use crate::progress::{Answer, reader_of};
 use command_line::ExplainOptions;
 use explain_json::{no_memory_json, refused_json};
-use explain_refusal::{ConfigRefusal, toml_fault};
 use lf_rules::NoMemory;
-use lf_verdict::{Outcome, Refusal};
 use run_engine::Counted;
 use run_report::{Asked, run_explain, run_explain_json};
 use std::alloc::Global;
 use std::rt::Files;
 use std::thread::Threads;
 use std::{fmt, io};
-
-/// Tells what the key of a configuration that is refused may have, or where the text stops to be TOML. The place is
-/// left out where memory runs out.
-fn tell_config<T: Print + AllocGlobal>(rt: &T, outcome: &Outcome, text: &str) -> io::Result<()> {
-    let Outcome::Refused(Refusal::Config(fault)) = outcome else {
-        return Ok(());
-    };
-    let stop = &toml_fault(rt.alloc(), text).unwrap_or(None);
-    let why = ConfigRefusal { text, fault, stop };
-    print!(rt; "\n{why}")
-}
 
 /// The JSON of a trace that is not judged.
 fn json_of<D: fmt::Display>(alloc: Global, why: &D) -> Result<String, NoMemory> {
@@ -90,9 +77,6 @@ where
             .ending(Ending::of_answer(&answer, asked.complete));
     }
     let answer = run_explain(rt, &mut reader, &mut writer, text, &asked, u32::MAX);
-    if let Ok(conclusion) = &answer {
-        tell_config(rt, &conclusion.outcome, text)?;
-    }
     writer
         .inner()
         .ending(Ending::of_answer(&answer, asked.complete))

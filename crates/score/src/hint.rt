@@ -59,6 +59,23 @@ where
     }
 }
 
+/// Tells why the file at this path is no input. Whether it did is the answer.
+pub fn hint_of_input<T: Eprint + Files>(rt: &T, path: &str) -> io::Result<bool>
+where
+    T::File: Drop,
+{
+    match trouble_with(rt, path) {
+        Some(InputTrouble::Unread(why)) => eprintln!(rt; "score: {path}: {why}")?,
+        Some(InputTrouble::Packed(tool)) => {
+            eprintln!(rt;
+                "score: {path}: packed by {tool}; unpack it by {tool} -dc, and give - here"
+            )?
+        }
+        None => return Ok(false),
+    }
+    Ok(true)
+}
+
 /// Tells of the first file that cannot be read or is packed, or which help has each answer.
 fn hint_of_refusal<T: Eprint + Files>(rt: &T, request: &Request<'_>) -> io::Result<()>
 where
@@ -68,14 +85,8 @@ where
         let Some(path) = *input else {
             continue;
         };
-        match trouble_with(rt, path) {
-            Some(InputTrouble::Unread(why)) => return eprintln!(rt; "score: {path}: {why}"),
-            Some(InputTrouble::Packed(tool)) => {
-                return eprintln!(rt;
-                    "score: {path}: packed by {tool}; unpack it by {tool} -dc, and give - here"
-                );
-            }
-            None => {}
+        if hint_of_input(rt, path)? {
+            return Ok(());
         }
     }
     let name = request.name();

@@ -155,8 +155,11 @@ where
     match asked(rt.alloc(), words.as_slice()) {
         Ok(request) => answer_and_hint(rt, request, on_terminal),
         Err(CommandFault::Help(help)) => {
-            print!(rt; "{help}")?;
-            Ok(Ending::Done)
+            let told = match print!(rt; "{help}") {
+                Ok(()) => Ok(Ending::Done),
+                Err(why) => Err(why),
+            };
+            Ending::unless_unread(told)
         }
         Err(CommandFault::Memory) => refused(rt, InputFault::Memory),
         Err(CommandFault::Usage(fault)) => {
