@@ -6,14 +6,16 @@
 
 #include <stdio.h>
 
-// Feeds the trace. The first refusal or final fault stays what is told, and after it no more is read.
+// Feeds the trace. The first refusal or final fault stays what is told, and after it no more is read. What broke in a
+// piece that is refused stands before what is refused in it.
 static wudzark_answer judge(wudzark_board *board, FILE *trace, char *line) {
     char piece[64];
     size_t length;
-    wudzark_answer answer = {WUDZARK_FINE, 0};
+    wudzark_answer broke, answer = {WUDZARK_FINE, 0};
     while (answer.status == WUDZARK_FINE && (length = fread(piece, 1, sizeof piece, trace)) > 0) {
         answer = wudzark_feed_told(board, piece, length, line, WUDZARK_LINE_BYTES);
-        if (answer.status == WUDZARK_FINE) answer = wudzark_broken(board, line, WUDZARK_LINE_BYTES);
+        broke = wudzark_broken(board, line, WUDZARK_LINE_BYTES);
+        if (broke.status != WUDZARK_FINE) answer = broke;
     }
     if (answer.status == WUDZARK_FINE) return wudzark_finish(board, line, WUDZARK_LINE_BYTES);
     wudzark_abort(board);

@@ -5,15 +5,17 @@
 // for a caller in C.
 //
 // A board judges one trace. Open it for a hierarchy, and feed it the bytes of the trace in pieces of any length. Ask
-// after each piece whether there is a final fault. The first one is the answer: no later bytes can make it a yes, and
-// the board is given up. Without one, finish the board for the verdict:
+// after each piece whether there is a final fault, also after one that is refused: what broke before the bytes that
+// are refused comes first. The first fault is the answer: no later bytes can make it a yes, and the board is given up.
+// Without one, finish the board for the verdict:
 //
 //     wudzark_board board = WUDZARK_BOARD;
 //     char line[WUDZARK_LINE_BYTES];
-//     wudzark_answer answer = wudzark_open(&board, config, config_length, line, sizeof line);
+//     wudzark_answer broke, answer = wudzark_open(&board, config, config_length, line, sizeof line);
 //     while (answer.status == WUDZARK_FINE && (piece = next_piece(&length))) {
 //         answer = wudzark_feed_told(&board, piece, length, line, sizeof line);
-//         if (answer.status == WUDZARK_FINE) answer = wudzark_broken(&board, line, sizeof line);
+//         broke = wudzark_broken(&board, line, sizeof line); // leaves the line as it is, if there is no fault
+//         if (broke.status != WUDZARK_FINE) answer = broke;
 //     }
 //     if (answer.status == WUDZARK_FINE)
 //         answer = wudzark_finish(&board, line, sizeof line);
@@ -102,8 +104,8 @@ wudzark_answer wudzark_feed_told(wudzark_board *board, const void *bytes, size_t
 // Whether there is a final fault: no bytes that follow can lead to a yes. Then the line says what broke, for example
 // `broken bank=0 number=5 rule=ReplyData upon log=0 event=1 at=104`. The status is WUDZARK_BROKEN, or WUDZARK_REFUSED
 // if the trace is of another hierarchy. WUDZARK_FINE says that no record so far is at fault, unless memory ran out in
-// a feed. After a feed that refused the format it tells of the records before that. Missing numbers, and logs that
-// wait for one another, are only known at the end.
+// a feed, and leaves the line as it is. After a feed that refused the format it tells of the records before that.
+// Missing numbers, and logs that wait for one another, are only known at the end.
 wudzark_answer wudzark_broken(wudzark_board *board, char *line, size_t room);
 
 // The verdict on all bytes that were fed, with its line: WUDZARK_FINE for a yes, WUDZARK_BROKEN for a no. The board is
@@ -160,7 +162,8 @@ struct answer {
 };
 
 // A board that is moved and not copied, and that its destructor aborts. The first answer that is a refusal or a final
-// fault stays: `broken` and `finish` answer it from then on, until the scoreboard is opened again.
+// fault stays: `broken` and `finish` answer it from then on, until the scoreboard is opened again. Of a piece that is
+// refused, and has a final fault before that, this fault stays.
 class scoreboard {
   public:
     scoreboard() = default;
@@ -185,7 +188,9 @@ class scoreboard {
     [[nodiscard]] status feed(std::string_view bytes) { return feed(bytes.data(), bytes.size()); }
     [[nodiscard]] status feed(const void *bytes, std::size_t length) {
         if (stays()) return status(board.live ? wudzark_feed(&board, bytes, length) : first.status);
-        return kept(wudzark_feed_told(&board, bytes, length, line, sizeof line)).status;
+        const answer fed = kept(wudzark_feed_told(&board, bytes, length, line, sizeof line));
+        if (stays()) kept(wudzark_broken(&board, line, sizeof line));
+        return fed.status;
     }
     [[nodiscard]] answer broken() {
         if (stays()) return told(first);

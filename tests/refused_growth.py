@@ -7,8 +7,10 @@ until a run meets no refusal, and tells each run in which a refused growth was n
 The programs are those that `rt run` in crates/score and `rt test` in each crate left in out/. It needs a C compiler
 (cc, or the one that CC names), for a library that refuses one call of malloc, of realloc or of pthread_create. Where a
 growth is refused, the program must print `refused memory`, or `refused thread` where it was the making of a thread, and
-end with status 2. The file that it writes then has its old bytes or all the new ones, and no part of it lies beside it.
-Runs of `demo` are tried at some growths alone, since their number changes from run to run.
+end with status 2. Of several traces each line is that of ample memory or says so. `dump` says so below what it printed
+by then, from which the lines of at most one read are missing. The file that a command writes then has its old bytes or
+all the new ones, and no part of it lies beside it. Runs of `demo`, whose number of growths changes from run to run, and
+of a trace of several reads are tried at some growths alone. Those of the library are swept by `tests/library`.
 
 Each test whose name begins with `refused_growth_of_` must then end with `out of memory`, where the call told it
 and what it left was right, or with `a thread was refused` where the making of a thread was refused, which may have been
@@ -47,7 +49,8 @@ SHIM = r"""
 
 extern void *__libc_malloc(size_t);
 extern void *__libc_realloc(void *, size_t);
-static long turn;
+extern ssize_t __read(int, void *, size_t);
+static long turn, bytes_read;
 
 static int is_refused(const char *what, size_t size) {
     static long at = -1;
@@ -58,7 +61,7 @@ static int is_refused(const char *what, size_t size) {
     if (__sync_add_and_fetch(&turn, 1) != at)
         return 0;
     char line[80];
-    int length = snprintf(line, sizeof line, "refused %s %zu\n", what, size);
+    int length = snprintf(line, sizeof line, "refused %s %zu after %ld\n", what, size, bytes_read);
     return write(2, line, length) > 0;
 }
 
@@ -78,6 +81,12 @@ void *realloc(void *block, size_t size) {
     return __libc_realloc(block, size);
 }
 
+ssize_t read(int file, void *bytes, size_t size) {
+    ssize_t n = __read(file, bytes, size);
+    if (n > 0) __sync_add_and_fetch(&bytes_read, n);
+    return n;
+}
+
 int pthread_create(pthread_t *thread, const pthread_attr_t *how, void *(*start)(void *), void *with) {
     int (*next)(pthread_t *, const pthread_attr_t *, void *(*)(void *), void *) = dlsym(RTLD_NEXT, "pthread_create");
     return is_refused("thread", 0) ? EAGAIN : next(thread, how, start, with);
@@ -85,7 +94,7 @@ int pthread_create(pthread_t *thread, const pthread_attr_t *how, void *(*start)(
 """
 
 # Commands of the program, each with how that begins which it prints with ample memory. Files of examples/ are named so,
-# MAP is a time map, and OUT.vcd and its like are written.
+# MAP is a time map, LIST names two traces, CUT is a broken trace without its end, and OUT.vcd and its like are written.
 COMMANDS = [
     ("check small.toml empty_trace.lfts", "yes events=0"),
     ("check small.toml load_misses_both_levels.lfts", "yes events=6"),
@@ -97,11 +106,15 @@ COMMANDS = [
     ("check four_ports.toml four_ports.lfts", "yes events="),
     ("check four_ports_wide.toml four_ports_wide.lfts", "yes events="),
     ("check --complete --progress small.toml load_misses_both_levels.lfts", "yes events=6"),
+    ("check small.toml load_misses_both_levels.lfts reply_with_a_wrong_byte.lfts", f"{EXAMPLES}/load_misses"),
+    ("check --list small.toml LIST", f"{EXAMPLES}/load_misses"),
+    ("check too_many_ways.toml load_misses_both_levels.lfts", "refused config Range level1.ways"),
     ("stats small.toml load_merges_behind_store.lfts", "bank=0 hits=0 primary=1 merges=1 stalls=0 peak=1"),
     ("stats small.toml explicit_entries_full.lfts", "bank=0 hits=0 primary=1 merges=1 stalls=1 peak=1"),
     ("stats inverted.toml inverted_two_registers.lfts", "bank=0 hits=0 primary=1 merges=1 stalls=0 peak=2"),
     ("watch small.toml load_misses_both_levels.lfts", "yes events=6"),
     ("watch small.toml reply_with_a_wrong_byte.lfts", "broken bank=0 number=5 rule=ReplyData upon"),
+    ("watch small.toml bank_broken_before_a_port.lfts", "broken bank=0 number=1 rule=NotPresent upon log=1 event=0"),
     ("explain small.toml load_misses_both_levels.lfts", "yes events=6"),
     ("explain small.toml reply_with_a_wrong_byte.lfts", "no bank=0 number=5 rule=ReplyData"),
     ("explain --map MAP small.toml reply_with_a_wrong_byte.lfts", "no bank=0 number=5 rule=ReplyData"),
@@ -109,6 +122,13 @@ COMMANDS = [
     ("explain --json small.toml reply_with_a_wrong_byte.lfts", '{"fault":{"asks":"the reply has the bytes'),
     ("explain --json --map MAP small.toml load_misses_both_levels.lfts", '{"events":6,"line":"yes events=6"'),
     ("explain two_ports.toml cycle_of_two_logs.lfts", "no cycle logs=0,1"),
+    ("explain --first small.toml bank_broken_before_a_port.lfts", "broken bank=0 number=1 rule=NotPresent upon"),
+    ("explain --complete small.toml eviction_of_a_dirty_line.lfts", "no incomplete port=0 tag=0"),
+    ("explain small.toml CUT", "refused format Truncated at=124"),
+    ("explain two_ports.toml load_misses_both_levels.lfts", "refused header Ports"),
+    ("explain too_many_ways.toml load_misses_both_levels.lfts", "refused config Range level1.ways"),
+    ("explain not_toml.toml load_misses_both_levels.lfts", "refused config NotToml"),
+    ("explain --json not_toml.toml load_misses_both_levels.lfts", '{"'),
     ("cover small.toml load_misses_both_levels.lfts", "bank=0 "),
     ("cover --dat OUT.dat small.toml load_misses_both_levels.lfts", "bank=0 "),
     ("cover --dat OUT.dat small.toml reply_with_a_wrong_byte.lfts", "no bank=0 number=5 rule=ReplyData"),
@@ -118,10 +138,21 @@ COMMANDS = [
     ("assemble load_misses_both_levels.text OUT.lfts", ""),
     ("shrink small.toml load_misses_both_levels.lfts OUT.lfts", "yes events=6"),
     ("shrink small.toml reply_with_a_wrong_byte.lfts OUT.lfts", "no bank=0 number="),
+    ("shrink --first small.toml bank_broken_before_a_port.lfts OUT.lfts", "no bank=0 number="),
+    ("shrink --map MAP small.toml reply_with_a_wrong_byte.lfts OUT.lfts", "no bank=0 number="),
     ("view small.toml load_misses_both_levels.lfts OUT.vcd", "yes events=6"),
+    ("view --complete small.toml eviction_of_a_dirty_line.lfts OUT.vcd", "no incomplete port=0 tag=0"),
     ("view small.toml reply_with_a_wrong_byte.lfts OUT.vcd", "no bank=0 number=5 rule=ReplyData"),
     ("view --map MAP small.toml load_misses_both_levels.lfts OUT.vcd", "yes events=6"),
 ]
+
+# Commands on LONG, which takes several reads, tried at these growths.
+LONG_COMMANDS = [("dump LONG", "lfts version="), ("dump --bank 0 LONG", "lfts version=")]
+LONG_GROWTHS = [*range(1, 60), *range(60, 6000, 41)]
+LONG_EVENTS = 6000
+
+# the bytes of one read
+PIECE = 65536
 
 # A time map of a trace with one port and one bank.
 MAP = "".join(f"{log} {place} {10 * place + log}\n" for log in (0, 1) for place in range(8))
@@ -199,7 +230,7 @@ class Runs:
         env = {"LD_PRELOAD": self.shim, "REFUSED_GROWTH": str(n)}
         ran = subprocess.run(words, env=env, cwd=folder, capture_output=True, timeout=120)
         self.count += 1
-        told = re.search(rb"^refused (bytes|thread) (\d+)$", ran.stderr, re.M)
+        told = re.search(rb"^refused (bytes|thread) (\d+) after (\d+)$", ran.stderr, re.M)
         return ran, told
 
     def fault(self, name: str, n: int, told: Told, text: str) -> None:
@@ -254,8 +285,9 @@ class ProgramRun:
 
     def __init__(self, program: str, line: str, begin: str, folder: str) -> None:
         self.name, self.begin = f"score {line}", begin
-        self.outs = [os.path.join(folder, name) for name in ("OUT.dat", "OUT.lfts", "OUT.vcd", "OUT.gtkw")]
-        places = {os.path.basename(out): out for out in self.outs} | {"MAP": os.path.join(folder, "MAP")}
+        self.outs = [os.path.join(folder, f"OUT.{kind}") for kind in ("dat", "lfts", "vcd", "gtkw", "map")]
+        places = {os.path.basename(it): it for it in glob.glob(os.path.join(folder, "*"))}
+        places |= {os.path.basename(out): out for out in self.outs}
         self.words = [program, *(places.get(word) or example(word) for word in line.split())]
         self.folder = folder
         self.prepare()
@@ -275,15 +307,28 @@ class ProgramRun:
                 found.append(file.read())
         return found
 
-    def is_told(self, text: str, refused: bytes) -> bool:
+    def is_told(self, text: str, told: "re.Match[bytes]") -> bool:
         """Whether the program says that a growth was refused. `dump` says so below what it has printed by then, and
         JSON is printed once the words are read."""
-        lawful = ["refused memory\n"] + ["refused thread\n"] * (refused == b"thread")
+        lawful = ["refused memory\n"] + ["refused thread\n"] * (told[1] == b"thread")
         if "--json" in self.words:
             lawful.append('{"line":"refused memory","verdict":"refused"}\n')
-        if "dump" in self.words:
-            return text.endswith(lawful[0]) and is_cut(text.removesuffix(lawful[0]), self.text)
-        return text in lawful
+        if "dump" in self.words and text.endswith(lawful[0]):
+            printed = text.removesuffix(lawful[0])
+            return is_cut(printed, self.text) if "--last" in self.words else self.is_but_for_one(printed, int(told[3]))
+        return text in lawful or self.is_of_each(text)
+
+    def is_but_for_one(self, printed: str, bytes_read: int) -> bool:
+        """Whether these are the first lines of all, and those that are missing end in what was read last."""
+        missing = self.text.removeprefix(printed)
+        ends = [int(at) for at in re.findall(r" ; at (\d+)$", missing, re.M)[1:]]
+        return printed + missing == self.text and (not ends or ends[0] > bytes_read - PIECE)
+
+    def is_of_each(self, text: str) -> bool:
+        """Whether each line is that of ample memory, or says that memory ran out for its trace."""
+        lines, whole = text.splitlines(), self.text.splitlines()
+        lawful = [(due, f"{due.partition(': ')[0]}: refused memory") for due in whole]
+        return ": " in self.text and lines != whole and len(lines) == len(whole) and all(map(in_pair, lines, lawful))
 
     def judge(self, ran: Ran, told: Told) -> Optional[str]:
         text, files = ran.stdout.decode(errors="replace"), self.files()
@@ -296,7 +341,11 @@ class ProgramRun:
             return None if same and text.startswith(self.begin) else text
         if any(found not in (BEFORE_IT, whole) for found, whole in zip(files, self.written)):
             return f"{text} and a file of other bytes"
-        return None if self.is_told(text, told[1]) and ran.returncode == 2 else text
+        return None if self.is_told(text, told) and ran.returncode == 2 else text
+
+
+def in_pair(line: str, pair: Tuple[str, str]) -> bool:
+    return line in pair
 
 
 def example(word: str) -> str:
@@ -328,11 +377,24 @@ def judge_beside(ran: Ran, told: Told) -> Optional[str]:
     return judge_swept(ran, told)
 
 
-def judge_demo(ran: Ran, told: Told) -> Optional[str]:
-    text = ran.stdout.decode(errors="replace")
-    if not told:
-        return None if text.startswith("demo events=") else text
-    return None if text in ("refused memory\n", "refused thread\n") and ran.returncode == 2 else text
+def judge_demo(out: str) -> Judge:
+    """Whether `demo` tells a refused growth, and leaves its file as it was."""
+
+    def judge(ran: Ran, told: Told) -> Optional[str]:
+        text, parts = ran.stdout.decode(errors="replace"), glob.glob(f"{out}.*")
+        with open(out, "rb+") as file:
+            written = file.read()
+            file.seek(0)
+            file.truncate()
+            file.write(BEFORE_IT)
+        if not told:
+            is_well = text.startswith("demo events=") and written.startswith(b"LFTS")
+        else:
+            due = "refused thread\n" if told[1] == b"thread" else "refused memory\n"
+            is_well = text == due and ran.returncode == 2 and written == BEFORE_IT
+        return None if is_well and not parts else f"{text} and {len(written)} bytes, {parts}"
+
+    return judge
 
 
 def tests_by_name() -> Dict[str, List[Tuple[str, str]]]:
@@ -350,19 +412,36 @@ def crate_of(program: str) -> str:
     return os.path.basename(program).removesuffix("_tests")
 
 
+def make_files(folder: str) -> None:
+    """The files that commands read, beside those of examples/."""
+    legal, broken = example("load_misses_both_levels.lfts"), example("reply_with_a_wrong_byte.lfts")
+    with open(broken, "rb") as file:
+        cut = file.read()[:128]
+    for name, data in (("MAP", MAP.encode()), ("LIST", f"{legal}\n{broken}\n".encode()), ("CUT", cut)):
+        with open(os.path.join(folder, name), "wb") as file:
+            file.write(data)
+    words = ["--events", str(LONG_EVENTS), "--out", "LONG", "--config", "LONG.toml"]
+    subprocess.run([sys.executable, os.path.join(TOP, "bench", "make_trace.py"), *words], cwd=folder, check=True)
+
+
 def sweep_program(runs: Runs, score: str, folder: str) -> None:
     if not os.path.exists(score):
         runs.lacks("score")
         return
-    with open(os.path.join(folder, "MAP"), "w", encoding="ascii") as file:
-        file.write(MAP)
+    make_files(folder)
     for line, begin in [*COMMANDS, WITH_WORKERS]:
         run = ProgramRun(score, line, begin, folder)
         runs.sweep(run.name, run.words, run.judge, folder)
+    for line, begin in LONG_COMMANDS:
+        run = ProgramRun(score, line, begin, folder)
+        runs.sweep(run.name, run.words, run.judge, folder, iter(LONG_GROWTHS))
+    out = os.path.join(folder, "demo.lfts")
+    with open(out, "wb") as file:
+        file.write(BEFORE_IT)
     for shape in ("small.toml", "two_ports.toml", "four_ports_wide.toml"):
-        words = [score, "demo", os.path.join(EXAMPLES, shape), os.path.join(folder, "demo.lfts")]
+        words = [score, "demo", os.path.join(EXAMPLES, shape), out]
         numbers = iter([*range(1, 150), *range(150, 3000, 37)])
-        runs.sweep(f"score demo {shape}", words, judge_demo, folder, numbers)
+        runs.sweep(f"score demo {shape}", words, judge_demo(out), folder, numbers)
 
 
 def sweep_tests(runs: Runs, folder: str) -> None:

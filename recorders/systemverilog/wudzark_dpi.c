@@ -43,6 +43,12 @@ static int refused_file(scoreboard *s, const char *path) { return refused(s, pat
 
 static bool stays(const scoreboard *s) { return s->answer.status != WUDZARK_FINE; }
 
+// Whether something broke in what was fed. If not, the answer stays as it is.
+static void ask(scoreboard *s) {
+    wudzark_answer broke = wudzark_broken(&s->board, s->line, WUDZARK_LINE_BYTES);
+    if (broke.status != WUDZARK_FINE) told(s, broke);
+}
+
 // All bytes of a file, or NULL.
 static char *read_file(const char *path, size_t *length) {
     FILE *file = fopen(path, "rb");
@@ -76,10 +82,13 @@ unsigned wudzark_dpi_status(void *handle) { return (unsigned)((scoreboard *)hand
 
 const char *wudzark_dpi_line(void *handle) { return ((scoreboard *)handle)->line; }
 
-// A piece that is refused is an answer that stays.
+// A piece that is refused is an answer that stays, or what broke in the records before that.
 static int take(void *context, const void *bytes, size_t count) {
     scoreboard *s = (scoreboard *)context;
-    if (!stays(s) && s->board.live) told(s, wudzark_feed_told(&s->board, bytes, count, s->line, WUDZARK_LINE_BYTES));
+    if (!stays(s) && s->board.live) {
+        told(s, wudzark_feed_told(&s->board, bytes, count, s->line, WUDZARK_LINE_BYTES));
+        if (stays(s)) ask(s);
+    }
     return s->copy && fwrite(bytes, 1, count, s->copy) != count;
 }
 
@@ -116,7 +125,7 @@ unsigned wudzark_dpi_check(void *handle, void *recorder) {
     if (!s || !r) return WUDZARK_FINE;
     lfts_end_cycle(r);
     lfts_flush(r);
-    if (!stays(s) && s->board.live) told(s, wudzark_broken(&s->board, s->line, WUDZARK_LINE_BYTES));
+    if (!stays(s) && s->board.live) ask(s);
     if (stays(s) && s->copy) fflush(s->copy);
     return (unsigned)s->answer.status;
 }

@@ -244,30 +244,32 @@ static bool is_refused(void) { return due >= 0 && due-- == 0; }
 void *__wrap_malloc(size_t size) { return is_refused() ? NULL : __real_malloc(size); }
 void *__wrap_realloc(void *block, size_t size) { return is_refused() ? NULL : __real_realloc(block, size); }
 
-// With one allocation refused the answer is the one without, or `refused memory`, or one without its line.
+// Whether the line of what broke was lost, and the status not.
+static bool is_silent(wudzark_answer broke, wudzark_answer whole) {
+    return broke.status == whole.status && broke.length == 0 && whole.length > 0;
+}
+
+// With one allocation refused the answer is `refused memory`, or one without its line. With none it is that of before.
 static void refuse_memory(char **words) {
     bytes config = read_file(words[0]), trace = read_file(words[1]);
     told whole = judge(config, trace, 16), t;
-    unsigned refused = 0, silent = 0, same = 0;
+    unsigned refused = 0, silent = 0;
     for (long n = 0;; n++) {
         bool all;
         due = n;
         t = judge(config, trace, 16);
         all = due >= 0;
         due = -1;
-        if (is_same(&t, &whole))
-            same++;
-        else if (t.verdict.length == 0)
-            silent++;
-        else if (t.verdict.status == WUDZARK_REFUSED && t.verdict.length == 14 &&
-                 !memcmp(t.line, "refused memory", 14))
-            refused++;
-        else
-            fail("another answer without memory");
-        expect(t.verdict.status == whole.verdict.status || t.verdict.status == WUDZARK_REFUSED, "another status");
         if (all) break;
+        if (t.verdict.status == WUDZARK_REFUSED && t.verdict.length == 14 && !memcmp(t.line, "refused memory", 14))
+            refused++;
+        else if (is_silent(t.broke, whole.broke) || is_silent(t.verdict, whole.verdict))
+            silent++;
+        else
+            fail("a refused allocation is not told");
     }
-    printf("refused=%u silent=%u same=%u\n", refused, silent, same);
+    expect(is_same(&t, &whole), "another answer with all memory");
+    printf("refused=%u silent=%u\n", refused, silent);
     free(trace.at);
     free(config.at);
 }

@@ -47,9 +47,10 @@ class Simulation:
         expect(self.trace.read_bytes() == trace, True, "the same trace")
 
     def fault(self, number: str) -> None:
-        """Stopped with the line that `watch` has of the whole trace, and soon after the record that it names."""
+        """Stopped with the line that `watch` has of the whole trace, and soon after the record that it names. The trace
+        that is kept then is the beginning of the whole one, broken by that record."""
         self.run(f"+bug={number}")
-        due = run([self.program, "watch", self.config, self.trace], status=1).stdout.rstrip("\n")
+        due, whole = self.watched(), self.trace.read_bytes()
         place = re.search(r"upon log=(\d+) event=(\d+) at=\d+$", due)
         if not place:
             raise Failure(due)
@@ -59,6 +60,26 @@ class Simulation:
         late = int(stopped[0][0]) - times[place.groups()]
         if not 0 <= late <= CYCLES * CYCLE:
             raise Failure(f"stopped {late} after the record")
+        kept = self.trace.read_bytes()
+        expect((self.watched(), whole.startswith(kept)), (due, True), "the trace that is kept")
+        # it ends between two records
+        cut = judge(self.program, self.config, self.trace)
+        expect(cut, f"refused format Truncated at={len(kept)}", "where it ends")
+
+    def told(self) -> None:
+        """LIBRARY.md has the line of fault 1."""
+        page = (TOP / "docs/LIBRARY.md").read_text(encoding="utf-8")
+        found = re.search(r"^\[\d+\] %Error: .*$", page, re.M)
+        if not found:
+            raise Failure("no line")
+        line = re.escape(found[0]).replace(r"\.\.", ".*")
+        printed = self.judged("+bug=1")
+        if not re.search(f"^{line}$", printed, re.M):
+            raise Failure(f"{found[0]} and not {printed}")
+
+    def watched(self) -> str:
+        """What `watch` prints of the trace."""
+        return run([self.program, "watch", self.config, self.trace], status=1).stdout.rstrip("\n")
 
     def no_configuration(self) -> None:
         for path, due in ((self.folder / "none.toml", "none.toml: No such file"), (DPI, "refused config NotToml")):
@@ -112,6 +133,7 @@ def check(checks: Checks, program: Path, library: Path, folder: Path) -> None:
     for number, name, rule in ROW.findall((EXAMPLE / "README.md").read_text(encoding="utf-8")):
         if rule:
             checks.check(f"in a simulator: stopped by fault {number}, {name}", partial(simulation.fault, number))
+    checks.check("in a simulator: LIBRARY.md shows where it stops", simulation.told)
     checks.check("in a simulator: no configuration", simulation.no_configuration)
     checks.check("in a simulator: calls too early, twice or refused", simulation.misused)
     checks.check("in a simulator: wudzark_dpi.c as C and as C++", compiles)

@@ -15,6 +15,7 @@ from pathlib import Path
 from typing import Callable, Optional
 
 from outside import TOP, Checks, Failure, expect, judge, run
+from shown import expect_score
 
 EXAMPLE = TOP / "examples/systemverilog"
 # A row of the table of faults: its number, its name and its rule.
@@ -33,6 +34,10 @@ CACHES = {
     "four ports, one bank": "PORTS=4 BANKS=1 BLOCK=8 TAGS=5 SETS1=1 WAYS1=4 REGISTERS1=2 ENTRIES1=8 SETS2=1 WAYS2=3 "
     "REGISTERS2=1 FOOTPRINT=16",
 }
+
+
+def readme() -> str:
+    return (EXAMPLE / "README.md").read_text(encoding="utf-8")
 
 
 @dataclass
@@ -87,13 +92,14 @@ class CacheChecks:
             for name, cache in self.caches.items():
                 self.check(f"{name}: built without a warning", partial(is_built, built[name]))
                 self.check(f"{name}: yes for each seed", partial(seeds, cache))
-        for number, name, rule in ROW.findall((EXAMPLE / "README.md").read_text(encoding="utf-8")):
+        for number, name, rule in ROW.findall(readme()):
             self.check(f"fault {number}, {name}: {rule or 'no rule'}", partial(self.fault, number, rule))
         self.check("the table has each fault", self.table)
         self.check("all kinds of events occur", self.all_kinds)
         self.check("a time for each event of a cycle", self.time_map)
         self.check("recording changes nothing", self.same_run)
         self.check("a killed simulation", self.killed)
+        self.check("README.md shows what score prints", self.shown)
         self.check("make prints the answer", self.make_prints)
         self.check("under 600 lines of design, lint-clean", self.is_small)
 
@@ -108,7 +114,7 @@ class CacheChecks:
             raise Failure(f"{line} and not {rule}")
 
     def table(self) -> None:
-        rows = ROW.findall((EXAMPLE / "README.md").read_text(encoding="utf-8"))
+        rows = ROW.findall(readme())
         package = (EXAMPLE / "design/lfc_pkg.sv").read_text(encoding="utf-8")
         found = re.search(r"NO_BUG, ([A-Z_,\s]+)\} bug_t;", package)
         names = re.findall(r"[A-Z_]+", found[1]) if found else []
@@ -156,9 +162,15 @@ class CacheChecks:
         line = judge(self.default.program, self.default.config(), trace)
         expect(line.split(" at=")[0], "refused format Truncated")
 
+    def shown(self) -> None:
+        for number in sorted(set(re.findall(r"seed_1_bug_(\d+)\.lfts", readme()))):
+            self.default.make("run", f"BUG={number}")
+        expect_score(EXAMPLE / "README.md", self.default.program, self.default.simulation().parent)
+
     def make_prints(self) -> None:
-        lines = self.default.make("SEED=7").splitlines()
-        expect(lines[-1].split("=")[0], "yes events")
+        lines = self.default.make("SEED=1").splitlines()
+        due = re.search(r"`(yes events=\d+)`", readme())
+        expect(lines[-1], due[1] if due else "")
         broken = self.default.make("BUG=3", status=2).splitlines()
         expect(broken[-1].split(" ")[-1], "rule=NeedlessStall")
 

@@ -68,6 +68,8 @@ DUE_TRACE = [
     "reply 1 0 5 0 -",
     "fence 1",
 ]
+# so many edges have its events; in whole units of time some of them are one
+EDGES = 6
 
 
 def stand_in() -> str:
@@ -114,7 +116,9 @@ def recorded(folder: Path, threads: int) -> None:
     words = ["verilator", "--binary", "--timing", "-j", "1", "-Wall", "--top-module", "monitors", "-Mdir", str(built)]
     # what the design of the test does on purpose
     words += ["-Wno-BLKSEQ", "-Wno-MULTIDRIVEN", "-Wno-TIMESCALEMOD", "-Wno-DECLFILENAME", "-Wno-UNUSED"]
-    words += ["--threads", str(threads), "-CFLAGS", f"-I{TOP / 'recorders/c'}", "-MAKEFLAGS", "OPT_FAST=-O0"]
+    # the monitors, which have no unit of time of their own, get that of the design
+    words += ["--timescale", "1ns/1ps", "--threads", str(threads)]
+    words += ["-CFLAGS", f"-I{TOP / 'recorders/c'}", "-MAKEFLAGS", "OPT_FAST=-O0"]
     sources = [SV / "lfts_pkg.sv", SV / "lfts_monitor.sv", HERE / "monitors.sv", SV / "lfts_dpi.c"]
     run([*words, *sources], seconds=300, cwd=folder)
     trace = folder / f"monitors_{threads}.lfts"
@@ -122,7 +126,9 @@ def recorded(folder: Path, threads: int) -> None:
     if "Error" in printed:
         raise Failure(printed)
     expect(trace.read_bytes(), reference(DUE_TRACE))
-    expect(len((folder / f"{trace.name}.map").read_text(encoding="utf-8").splitlines()), len(DUE_TRACE) - 1)
+    times = (folder / f"{trace.name}.map").read_text(encoding="utf-8").split()[2::3]
+    expect(len(times), len(DUE_TRACE) - 1)
+    expect(len(set(times)) < EDGES, True, f"{times}: the edges have times of their own")
 
 
 def check(checks: Checks, folder: Path) -> None:

@@ -42,6 +42,7 @@ class SvRecorder:
         self.checks.check("recorders/systemverilog: random scripts give the bytes of the format", self.random_scripts)
         self.checks.check("recorders/systemverilog: cycles, phases and the time map", self.cycles)
         self.checks.check("recorders/systemverilog: each misuse is an $error with its text", self.misuses)
+        self.checks.check("recorders/systemverilog: what is X or Z is an $error and counted", self.unknown)
         self.checks.check("recorders/systemverilog: a $fatal leaves what was flushed", self.fatal)
         self.checks.check("recorders/systemverilog: lfts_dpi.c as C and as C++", self.compiles)
 
@@ -95,6 +96,15 @@ class SvRecorder:
             made += 1
         if made < 40:
             raise Failure(f"only {made} misuses")
+
+    def unknown(self) -> None:
+        """The signals without a value are named by their bits, and nothing is recorded."""
+        shape = "open 1 1 8 1 2"
+        printed = self.play([shape, "unknown 3 5", "unknown 0 2", "refused", "close"], limit=10)
+        told = [line.partition("port monitor")[2] for line in printed.splitlines() if "%Error" in line]
+        expect(told, [f" {names} is X or Z; allowed: 0 and 1" for names in ("3: tag data", "0: size")], printed)
+        expect("refused 2\n" in printed, True, printed)
+        expect(self.trace.read_bytes(), reference([shape]))
 
     def fatal(self) -> None:
         """It closes no recorder, so the trace has no end. Before the first event nothing is flushed, unless the number of

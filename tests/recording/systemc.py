@@ -10,13 +10,12 @@ from pathlib import Path
 from typing import Callable
 
 from outside import TOP, Checks, Failure, Word, expect, judge, run
+from shown import expect_score
 
 EXAMPLE = TOP / "examples/systemc"
 SOURCES = ("cache.h", "recording.h", "testbench.cpp")
 # A row of the table of faults: its number, its name and its rule.
 ROW = re.compile(r"^\| (\d+) \| `([a-z_]+)` \| .* \| `(\w+)` \|$", re.M)
-# A command of README.md with what it prints.
-SHOWN = re.compile(r"^\$ score explain .* \| head -(\d+)\n(.*?)^```", re.M | re.S)
 SEEDS = 10
 # The clock, in the time resolution of SystemC: its period is 10 ns.
 PERIOD = 10_000
@@ -44,6 +43,9 @@ class Simulation:
     def build(self, *words: str) -> None:
         self.make("build", *words)
 
+    def simulation(self) -> Path:
+        return next(self.folder.glob("*/simulation"))
+
     def explained(self) -> list[str]:
         """The lines that `explain` prints of a no."""
         words: list[Word] = ["explain", "--map", self.map, self.config, self.trace]
@@ -51,9 +53,8 @@ class Simulation:
 
     def run(self, *words: str, status: int = 0) -> str:
         """Runs it, and gives what it printed."""
-        simulation = next(self.folder.glob("*/simulation"))
         files = [f"config={self.config}", f"trace={self.trace}", f"map={self.map}"]
-        return run([simulation, *files, *words], status=status, cwd=self.folder, seconds=120).stdout
+        return run([self.simulation(), *files, *words], status=status, cwd=self.folder, seconds=120).stdout
 
     def answer(self, *words: str) -> str:
         self.run(*words)
@@ -81,7 +82,7 @@ class SystemcChecks:
             self.check(f"fault {number}, {name}: {rule}", partial(self.fault, number, rule))
         self.check("the table has each fault", self.table)
         self.check("a lookup in the delta of its issue is legal by construction order", self.by_order)
-        self.check("README.md shows what explain prints", self.shown)
+        self.check("README.md shows what score prints", self.shown)
         self.check("make prints the answer", self.make_prints)
         self.checks.check_with(["clang-format"], "examples/systemc: formatted by clang-format", self.formatted)
         clang = partial(self.other.build, "CXX=clang++")
@@ -145,11 +146,9 @@ class SystemcChecks:
         expect(line.split("=")[0], "yes events")
 
     def shown(self) -> None:
-        found = SHOWN.search(readme())
-        if not found:
-            raise Failure("no command")
-        self.recorded.run("bug=1")
-        expect("".join(self.recorded.explained()[: int(found[1])]), found[2])
+        for number in set(re.findall(r"seed_1_bug_(\d+)\.lfts", readme())):
+            self.recorded.make("run", f"BUG={number}")
+        expect_score(EXAMPLE / "README.md", self.program, self.recorded.simulation().parent)
 
     def make_prints(self) -> None:
         lines = self.recorded.make("SEED=1").splitlines()
