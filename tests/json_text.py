@@ -58,7 +58,7 @@ def taken_lines(taken: Optional[Object]) -> List[str]:
     """The register that holds the block of a needless stall, and its targets."""
     if taken is None:
         return []
-    return [f"  register={taken['register']} holds the block and has targets={taken['targets']}"]
+    return [f"  register={taken['register']} holds block={taken['block']} with targets={taken['targets']}"]
 
 
 def field_lines(field: Optional[Object]) -> List[str]:
