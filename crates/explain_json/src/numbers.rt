@@ -1,5 +1,6 @@
 //! Numbers of records that give no order.
 
+use crate::object::Object;
 use crate::record::{record_at_json, records_json};
 use explain_history::{record_at, room};
 use explain_lines::Listing;
@@ -60,6 +61,15 @@ fn waits_json(alloc: Global, listing: &Listing<'_>, waits: &[Wait]) -> Result<Va
     Ok(Value::Array(list))
 }
 
+/// Of which kind it is, and which number of a bank it is about.
+fn kind_json(alloc: Global, kind: &str, bank: u8, number: u32) -> Result<Object, NoMemory> {
+    let mut object = Object::new(alloc);
+    object.set_text("kind", kind)?;
+    object.set("bank", Value::from(bank))?;
+    object.set("number", Value::from(number))?;
+    Ok(object)
+}
+
 /// Why the numbers of the records give no order.
 pub(crate) fn reason_json(
     alloc: Global,
@@ -72,10 +82,9 @@ pub(crate) fn reason_json(
             number,
             places,
         } => {
-            let records = records_json(alloc, listing, places)?;
-            Ok(
-                json!(in alloc; {"kind": "double", "bank": *bank, "number": *number, "records": records})?,
-            )
+            let mut object = kind_json(alloc, "double", *bank, *number)?;
+            object.set("records", records_json(alloc, listing, places)?)?;
+            Ok(object.done())
         }
         Reason::Missing {
             bank,
@@ -83,11 +92,10 @@ pub(crate) fn reason_json(
             below,
             above,
         } => {
-            let below = records_json(alloc, listing, below)?;
-            let above = records_json(alloc, listing, above)?;
-            Ok(json!(in alloc; {
-                "kind": "missing", "bank": *bank, "number": *number, "below": below, "above": above
-            })?)
+            let mut object = kind_json(alloc, "missing", *bank, *number)?;
+            object.set("below", records_json(alloc, listing, below)?)?;
+            object.set("above", records_json(alloc, listing, above)?)?;
+            Ok(object.done())
         }
         Reason::Cycle(waits) => {
             let waits = waits_json(alloc, listing, waits)?;

@@ -1,7 +1,7 @@
 //! What a bank has of a block.
 
-use crate::object::{digits, hexadecimal, masks_json};
-use explain_replay::NamedBlock;
+use crate::object::{Object, digits, hexadecimal, masks_json};
+use explain_replay::{BlockState, NamedBlock};
 use lf_rules::{Mask, Masks, NoMemory};
 use serde_json::{Value, json};
 use std::alloc::Global;
@@ -37,24 +37,31 @@ fn register1_json(alloc: Global, held: bool, stores: Mask) -> Result<Value, NoMe
     Ok(json!(in alloc; {"waiting_stores": stores})?)
 }
 
+/// Its lines, and its register of level one.
+fn set_lines(object: &mut Object, state: &BlockState) -> Result<(), NoMemory> {
+    let alloc = object.alloc;
+    object.set("level_one_line", line1_json(alloc, state.line1)?)?;
+    object.set("level_two_line", line2_json(alloc, &state.line2)?)?;
+    let register1 = register1_json(alloc, state.held, state.stores)?;
+    object.set("level_one_register", register1)
+}
+
+/// What level two was asked of it.
+fn set_asked(object: &mut Object, state: &BlockState) -> Result<(), NoMemory> {
+    object.set("level_two_register", Value::from(state.fetched))?;
+    object.set("asked_of_level_two", Value::from(state.asked))?;
+    object.set("supplied_by_level_two", Value::from(state.supplied))
+}
+
 /// A block, and what the bank has of it.
 fn block_json(alloc: Global, named: &NamedBlock) -> Result<Value, NoMemory> {
-    let state = &named.state;
-    let line1 = line1_json(alloc, state.line1)?;
-    let line2 = line2_json(alloc, &state.line2)?;
-    let register1 = register1_json(alloc, state.held, state.stores)?;
-    let value = json!(in alloc; {
-        "block": named.block,
-        "address": hexadecimal(alloc, named.address)?,
-        "level_one_line": line1,
-        "level_two_line": line2,
-        "level_one_register": register1,
-        "level_two_register": state.fetched,
-        "asked_of_level_two": state.asked,
-        "supplied_by_level_two": state.supplied,
-        "memory": digits(alloc, &state.bytes)?,
-    })?;
-    Ok(value)
+    let mut object = Object::new(alloc);
+    object.set("block", Value::from(named.block))?;
+    object.set("address", hexadecimal(alloc, named.address)?)?;
+    set_lines(&mut object, &named.state)?;
+    set_asked(&mut object, &named.state)?;
+    object.set("memory", digits(alloc, &named.state.bytes)?)?;
+    Ok(object.done())
 }
 
 /// The blocks, one after another.
