@@ -58,18 +58,24 @@ fn set_rule(object: &mut Object, rule: Rule) -> Result<(), NoMemory> {
     object.set_text("asks", sentence_of(rule))
 }
 
+/// So many of what this name says.
+fn count_json(alloc: Global, name: &str, count: u32) -> Result<Value, NoMemory> {
+    let mut object = Object::new(alloc);
+    object.set(name, Value::from(count))?;
+    Ok(object.done())
+}
+
 /// How many the configuration has of what the rule is about, and null where it is not told.
 fn limit_json(alloc: Global, limit: Option<Limit>) -> Result<Value, NoMemory> {
-    let value = match limit {
-        Some(Limit::Tags(tags)) => json!(in alloc; {"tags": tags})?,
-        Some(Limit::Registers(registers)) => json!(in alloc; {"registers": registers})?,
-        Some(Limit::Ways { set, ways }) => json!(in alloc; {"set": set, "ways": ways})?,
-        Some(Limit::Targets(targets)) => json!(in alloc; {"targets": targets})?,
-        Some(Limit::Words(words)) => json!(in alloc; {"words": words})?,
-        Some(Limit::Blocks(blocks)) => json!(in alloc; {"blocks": blocks})?,
-        None => Value::Null,
-    };
-    Ok(value)
+    match limit {
+        Some(Limit::Tags(tags)) => count_json(alloc, "tags", tags),
+        Some(Limit::Registers(registers)) => count_json(alloc, "registers", registers),
+        Some(Limit::Ways { set, ways }) => Ok(json!(in alloc; {"set": set, "ways": ways})?),
+        Some(Limit::Targets(targets)) => count_json(alloc, "targets", targets),
+        Some(Limit::Words(words)) => count_json(alloc, "words", words),
+        Some(Limit::Blocks(blocks)) => count_json(alloc, "blocks", blocks),
+        None => Ok(Value::Null),
+    }
 }
 
 /// The register that is free, and null where none is told.
@@ -112,11 +118,11 @@ fn part_json(alloc: Global, listing: &Listing<'_>, origins: &Origins) -> Result<
         records.push(record_at_json(alloc, listing, Some(origin.place))?)?;
         requests.push(record_at_json(alloc, listing, origin.request)?)?;
     }
-    Ok(json!(in alloc; {
-        "heading": origins.part.heading(),
-        "records": Value::Array(records),
-        "requests": Value::Array(requests),
-    })?)
+    let mut object = Object::new(alloc);
+    object.set_text("heading", origins.part.heading())?;
+    object.set("records", Value::Array(records))?;
+    object.set("requests", Value::Array(requests))?;
+    Ok(object.done())
 }
 
 /// The records that the state of the rule comes from, and null where it is about no such state.
@@ -176,6 +182,15 @@ fn set_broken(
     }
 }
 
+/// How many there are of what the rule is about, and what is free or taken of them.
+fn set_limits(object: &mut Object, why: &Explanation) -> Result<(), NoMemory> {
+    let alloc = object.alloc;
+    object.set("limit", limit_json(alloc, why.limit)?)?;
+    object.set("free_register", free_json(why.free))?;
+    object.set("taken", taken_json(alloc, why.taken)?)?;
+    object.set("free_field", field_json(alloc, why.field)?)
+}
+
 /// Why a record breaks a rule.
 pub(crate) fn breach_json(
     alloc: Global,
@@ -184,10 +199,7 @@ pub(crate) fn breach_json(
 ) -> Result<Value, NoMemory> {
     let mut object = Object::new(alloc);
     set_rule(&mut object, why.rule)?;
-    object.set("limit", limit_json(alloc, why.limit)?)?;
-    object.set("free_register", free_json(why.free))?;
-    object.set("taken", taken_json(alloc, why.taken)?)?;
-    object.set("free_field", field_json(alloc, why.field)?)?;
+    set_limits(&mut object, why)?;
     if let Some(place) = why.history.place {
         set_place(&mut object, listing, place, &why.broken)?;
     }

@@ -1,5 +1,6 @@
 //! What a legal trace uses at most.
 
+use crate::object::Object;
 use count_usage::{BankUse, LevelUse, Usage, tags_used};
 use lf_rules::{Level, NoMemory, OrgShape, Shape};
 use serde_json::{Value, json};
@@ -18,17 +19,20 @@ fn level_json(
     level: &Level,
     fields: u32,
 ) -> Result<Value, NoMemory> {
-    let ways = share_json(alloc, used.ways, level.ways)?;
-    let (granted, places) = match level.organisation {
+    let mut object = Object::new(alloc);
+    object.set("ways", share_json(alloc, used.ways, level.ways)?)?;
+    let (registers, targets) = match level.organisation {
         OrgShape::Implicit { registers } => (registers, fields),
         OrgShape::Explicit { registers, entries } => (registers, entries),
         OrgShape::Inverted => {
-            return Ok(json!(in alloc; {"ways": ways, "registers": null, "targets": null})?);
+            object.set("registers", Value::Null)?;
+            object.set("targets", Value::Null)?;
+            return Ok(object.done());
         }
     };
-    let registers = share_json(alloc, used.registers, granted)?;
-    let targets = share_json(alloc, used.targets, places)?;
-    Ok(json!(in alloc; {"ways": ways, "registers": registers, "targets": targets})?)
+    object.set("registers", share_json(alloc, used.registers, registers)?)?;
+    object.set("targets", share_json(alloc, used.targets, targets)?)?;
+    Ok(object.done())
 }
 
 /// What is used of a bank.
