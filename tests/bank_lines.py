@@ -1,5 +1,5 @@
 """What goes between the levels of a bank and which of its lines are dirty, by the effects that docs/RULES.md gives the
-events. Dirty lines are kept as masks of bytes."""
+events. Dirty lines are kept as masks of bytes. A cache by itself asks the outside, and a fill or a grant answers."""
 
 from __future__ import annotations
 
@@ -38,8 +38,13 @@ class BankLines:
             block, offset = divmod(event.address, self.header.block)
             mask = ((1 << event.size) - 1) << offset if event.op == lfts.STORE else 0
             self.queues.setdefault(record.log, []).append((block, mask))
+        elif isinstance(event, lfts.Masked):
+            mask = event.mask if event.op == lfts.STORE else 0
+            self.queues.setdefault(record.log, []).append((event.block, mask))
         elif isinstance(event, (lfts.Hit, lfts.Primary, lfts.Merge)):
             self.accept(event)
+        elif self.header.version == 4:
+            self.alone(event)
         elif isinstance(event, lfts.Fill1):
             self.supplied = without(self.supplied, event.block)
             self.lines[event.block] = self.stores.pop(event.block, 0)
@@ -57,6 +62,15 @@ class BankLines:
             self.wide_lines[event.second] = {}
         elif isinstance(event, lfts.Evict2):
             self.wide_lines.pop(event.second, None)
+
+    def alone(self, event: lfts.Event) -> None:
+        """An event of a cache by itself that accepts no request."""
+        if isinstance(event, (lfts.Fill1, lfts.Grant)):
+            self.asked = without(self.asked, event.block)
+            before = self.lines.get(event.block, 0) if isinstance(event, lfts.Grant) else 0
+            self.lines[event.block] = before | self.stores.pop(event.block, 0)
+        elif isinstance(event, (lfts.Evict1, lfts.Clean1)):
+            self.lines.pop(event.block, 0)
 
     def accept(self, event: lfts.Event) -> None:
         assert isinstance(event, (lfts.Hit, lfts.Primary, lfts.Merge))

@@ -51,7 +51,7 @@ def complete(trace: str, text: str) -> str:
         return text
     waiting: Set[Tuple[int, int]] = set()
     for item in lfts.Reader((EXAMPLES / trace).open("rb")):
-        if isinstance(item, lfts.Record) and isinstance(item.event, lfts.Issue):
+        if isinstance(item, lfts.Record) and isinstance(item.event, (lfts.Issue, lfts.Masked)):
             waiting.add((item.log, item.event.tag))
         elif isinstance(item, lfts.Record) and isinstance(item.event, lfts.Reply):
             waiting.remove((item.log, item.event.tag))

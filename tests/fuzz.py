@@ -28,7 +28,7 @@ ANSWER = re.compile(
     rb"yes events=\d+\n|no numbering bank=\d+ (missing|double)=\d+\n|no (port=\d+ event|bank=\d+ number)=\d+ rule=\w+\n"
     rb"|no cycle logs=\d+(,\d+)*\n|refused (usage|memory|thread|workers \d+|read config|read trace)\n"
     rb"|refused config (NotToml|(Unknown|Missing|Kind|Range) [!-~?]*)\n|refused format \w+ at=\d+\n"
-    rb"|refused header (Ports|Banks|Block|Factor)\n"
+    rb"|refused header (Ports|Banks|Block|Factor|Below)\n"
 )
 COUNTS = re.compile(rb"(bank=\d+ hits=\d+ primary=\d+ merges=\d+ stalls=\d+ peak=\d+\n)+(port=\d+ unanswered=\d+\n)+")
 DUMPED = re.compile(rb"(?:[a-z].*\n)*(?:end count=\d+ ; at \d+|(refused (?:format \w+ at=\d+|memory|read trace)))\n")

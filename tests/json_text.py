@@ -12,7 +12,7 @@ Object = Dict[str, Any]
 # the fields of a record's line between its place and its bytes
 FIELDS = ("port", "tag", "size", "address", "block", "register")
 # the events of a port's log
-OF_PORTS = ("load", "store", "reply", "fence")
+OF_PORTS = ("load", "store", "masked_load", "masked_store", "reply", "fence")
 
 
 def line_of(record: Optional[Object]) -> List[str]:
@@ -89,20 +89,25 @@ def carried(fault: Object) -> List[str]:
 
 def block_lines(block: Object) -> List[str]:
     """What a bank has of a block."""
-    lines = [line and "dirty" + masks(line["dirty"]) for line in (block["level_one_line"], block["level_two_line"])]
-    one = block["level_one_register"]
-    held = one and f"holds the block, waiting stores mask={one['waiting_stores']}"
+    line, one = block["level_one_line"], block["level_one_register"]
+    holder = ", which the outside may hold too" if line and line.get("shared") else ""
+    line_one = "dirty" + masks(line["dirty"]) + holder if line else "none"
+    held = f"holds the block, waiting stores mask={one['waiting_stores']}" if one else "none"
+    heading = ["", f"block={block['block']} address={block['address']} before it:"]
+    memory = f"  memory               {data(block['memory'])}"
+    if "level_two_line" not in block:
+        return [*heading, f"  level-one line        {line_one}", f"  level-one register    {held}", memory]
+    line_two = block["level_two_line"] and "dirty" + masks(block["level_two_line"]["dirty"])
     yes_or_no = {True: "yes", False: "no"}
     return [
-        "",
-        f"block={block['block']} address={block['address']} before it:",
-        f"  level-one line        {lines[0] or 'none'}",
-        f"  level-two line        {lines[1] or 'none'}",
-        f"  level-one register    {held or 'none'}",
+        *heading,
+        f"  level-one line        {line_one}",
+        f"  level-two line        {line_two or 'none'}",
+        f"  level-one register    {held}",
         f"  level-two register    {'holds the second-level block' if block['level_two_register'] else 'none'}",
         f"  asked of level two    {yes_or_no[block['asked_of_level_two']]}",
         f"  supplied by level two {yes_or_no[block['supplied_by_level_two']]}",
-        f"  memory               {data(block['memory'])}",
+        memory,
     ]
 
 
@@ -176,9 +181,8 @@ def usage_lines(used: Object) -> List[str]:
     """What the trace uses at most."""
     lines = ["used at once, at most:"]
     for bank, levels in enumerate(used["banks"]):
-        for number in (1, 2):
-            level = levels[f"level{number}"]
-            line = f"bank {bank} level {number}: ways of a set {share(level['ways'])}"
+        for name, level in sorted(levels.items()):
+            line = f"bank {bank} level {name[5:]}: ways of a set {share(level['ways'])}"
             if level["registers"] is not None:
                 line += f"; registers {share(level['registers'])}; targets of a register {share(level['targets'])}"
             lines.append(line)

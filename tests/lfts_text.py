@@ -23,6 +23,10 @@ WORDS = {
     lfts.Evict2: "evict2",
     lfts.Fence: "fence",
     lfts.SecondMerge: "second_merge",
+    lfts.Grant: "grant",
+    lfts.Clean1: "clean1",
+    lfts.Yield1: "yield1",
+    lfts.Outside: "outside",
 }
 HEADER_BYTES = 16
 
@@ -68,6 +72,9 @@ def item_text(item: Union[lfts.Memory, lfts.Record]) -> str:
     if isinstance(event, lfts.Issue):
         word = "load" if event.op == lfts.LOAD else "store"
         fields = f"tag={event.tag} size={event.size} address={event.address:#x}"
+    elif isinstance(event, lfts.Masked):
+        word = "masked_load" if event.op == lfts.LOAD else "masked_store"
+        fields = f"tag={event.tag} block={event.block} mask={event.mask:#x}"
     else:
         word, fields = WORDS[type(event)], fields_of(event)
     data = b"".join(event.parts) if isinstance(event, (lfts.Evict2, lfts.Fill2)) else getattr(event, "data", b"")
@@ -80,7 +87,7 @@ def place_of(record: lfts.Record) -> str:
     if isinstance(record.event, lfts.Fence):
         return f"port={record.log}"
     place = f"bank={record.bank} number={record.number}"
-    if isinstance(record.event, (lfts.Issue, lfts.Reply)):
+    if isinstance(record.event, (lfts.Issue, lfts.Masked, lfts.Reply)):
         return f"port={record.log} {place}"
     return place
 
@@ -94,6 +101,7 @@ def fields_of(event: lfts.Event) -> str:
         fields = [("block", event.second)]
     elif hasattr(event, "block"):
         fields.insert(0, ("block", event.block))
-    masks = event.masks if isinstance(event, lfts.Evict2) else [event.mask] if isinstance(event, lfts.Evict1) else []
+    one = isinstance(event, (lfts.Evict1, lfts.Clean1, lfts.Outside))
+    masks = event.masks if isinstance(event, lfts.Evict2) else [event.mask] if one else []
     texts = [f"{name}={value}" for name, value in fields] + [f"mask={mask:#x}" for mask in masks]
     return " ".join(texts)

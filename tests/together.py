@@ -33,6 +33,7 @@ OUTSIDE = [
     "tests/systemc",
     "tests/check",
     "tests/plain",
+    "tests/alone",
     "tests/shrink",
     "tests/cover",
     "tests/help",

@@ -1,4 +1,4 @@
-// lfts.h - records a trace of a two-level lockup-free cache, in the format that `score` judges.
+// lfts.h - records a trace of a two-level lockup-free cache, or of a cache by itself, in the format that `score` judges.
 //
 // One header for C99 and C++11. Include it wherever events are recorded. In one C or C++ file of the program
 // define LFTS_IMPLEMENTATION before the include: the bodies stand there. README.md shows how it is used. For C++17
@@ -136,9 +136,9 @@ static inline lfts_output lfts_to_function(lfts_write_function write, void *cont
 }
 
 // Begins a trace of so many ports and banks (1 to 16), blocks of `block` bytes (8, 16, 32 or 64), and
-// `factor` of them in a second-level block (1, 2 or 4; 1 before version 3). The version is 1, 2 or 3: version
-// 2 brings fences, version 3 second-level merges and factors. Whatever *r was is forgotten. Where it is
-// refused nothing was created, but for LFTS_IO.
+// `factor` of them in a second-level block (1, 2 or 4 in version 3, otherwise 1). The version is 1 to 4: version
+// 2 brings fences, version 3 second-level merges and factors, and version 4 is that of a cache by itself, which has
+// no level two. Whatever *r was is forgotten. Where it is refused nothing was created, but for LFTS_IO.
 lfts_status lfts_open(lfts_recorder *r, lfts_output output, unsigned ports, unsigned banks, unsigned block,
                       unsigned factor, unsigned version);
 
@@ -167,7 +167,12 @@ lfts_status lfts_set_phase(lfts_recorder *r, lfts_phase phase);
 // for a load.
 lfts_status lfts_issue(lfts_recorder *r, unsigned port, unsigned bank, lfts_op op, unsigned tag, unsigned size,
                        uint64_t address, const void *bytes);
-// A port takes a reply. To a load: its size and what it read. To a store: size 0 and NULL.
+// The same for the bytes of a block under a mask, of which it has one at least. `bytes` has the whole block, of which
+// a store writes those of the mask, and is NULL for a load. In version 4.
+lfts_status lfts_masked(lfts_recorder *r, unsigned port, unsigned bank, lfts_op op, unsigned tag, uint32_t block,
+                        uint64_t mask, const void *bytes);
+// A port takes a reply. To a load: its size and what it read; to a masked one as many bytes as its mask has. To a store:
+// size 0 and NULL.
 lfts_status lfts_reply(lfts_recorder *r, unsigned port, unsigned bank, unsigned tag, unsigned size, const void *bytes);
 // No request of the port is outstanding. In a cycle it stands right behind the port's last reply, or first of all.
 // From version 2 on.
@@ -186,7 +191,20 @@ lfts_status lfts_fill1(lfts_recorder *r, unsigned bank, uint32_t block, const vo
 // is 0.
 lfts_status lfts_evict1(lfts_recorder *r, unsigned bank, uint32_t block, uint64_t mask, const void *bytes);
 
-// Events of a bank's level two. `block` is a first-level block, `second` a second-level block.
+// Events of a cache by itself, whose bank shares blocks with the outside: all that is below and beside it. In version 4.
+
+// Level one gets the right to write a block that it has.
+lfts_status lfts_grant(lfts_recorder *r, unsigned bank, uint32_t block);
+// Level one writes a line's dirty bytes back and keeps the line. `bytes` is as for lfts_evict1.
+lfts_status lfts_clean1(lfts_recorder *r, unsigned bank, uint32_t block, uint64_t mask, const void *bytes);
+// Level one gives up the right to write a block, and keeps its line.
+lfts_status lfts_yield1(lfts_recorder *r, unsigned bank, uint32_t block);
+// The outside writes bytes of a block. `bytes` has the whole block, of which those of the mask are recorded. The mask
+// has one byte at least.
+lfts_status lfts_outside(lfts_recorder *r, unsigned bank, uint32_t block, uint64_t mask, const void *bytes);
+
+// Events of a bank's level two, which versions 1 to 3 have. `block` is a first-level block, `second` a second-level
+// block.
 
 lfts_status lfts_second_hit(lfts_recorder *r, unsigned bank, uint32_t block);
 lfts_status lfts_second_primary(lfts_recorder *r, unsigned bank, uint32_t block, unsigned miss_register);
@@ -242,24 +260,27 @@ lfts_status lfts_reject(lfts_recorder *r, lfts_status status, const char *text);
 // The kinds of events, by their numbers in the format.
 enum {
     LFTS_ISSUE = 1, LFTS_REPLY, LFTS_HIT, LFTS_PRIMARY, LFTS_MERGE, LFTS_STALL, LFTS_FILL1, LFTS_EVICT1,
-    LFTS_SECOND_HIT, LFTS_SECOND_PRIMARY, LFTS_SECOND_STALL, LFTS_FILL2, LFTS_EVICT2, LFTS_FENCE, LFTS_SECOND_MERGE
+    LFTS_SECOND_HIT, LFTS_SECOND_PRIMARY, LFTS_SECOND_STALL, LFTS_FILL2, LFTS_EVICT2, LFTS_FENCE, LFTS_SECOND_MERGE,
+    LFTS_MASKED, LFTS_GRANT, LFTS_CLEAN1, LFTS_YIELD1, LFTS_OUTSIDE
 };
 
 enum { LFTS_NO_PHASE = LFTS_PHASE_ISSUES + 1 };
 
-// Of each kind, from 1 on, its call, its phase, and the version from which it may stand.
+// Of each kind, from 1 on, its call, its phase, and the versions from and to which it may stand.
 static const struct lfts_kind {
     const char *call;
-    unsigned phase, version;
+    unsigned phase, version, last;
 } lfts_kinds[] = {
-    {"lfts_issue", LFTS_PHASE_ISSUES, 1}, {"lfts_reply", LFTS_PHASE_REPLIES, 1},
-    {"lfts_hit", LFTS_PHASE_LEVEL_ONE, 1}, {"lfts_primary", LFTS_PHASE_LEVEL_ONE, 1},
-    {"lfts_merge", LFTS_PHASE_LEVEL_ONE, 1}, {"lfts_stall", LFTS_PHASE_LEVEL_ONE, 1},
-    {"lfts_fill1", LFTS_PHASE_LEVEL_ONE, 1}, {"lfts_evict1", LFTS_PHASE_LEVEL_ONE, 1},
-    {"lfts_second_hit", LFTS_PHASE_LEVEL_TWO, 1}, {"lfts_second_primary", LFTS_PHASE_LEVEL_TWO, 1},
-    {"lfts_second_stall", LFTS_PHASE_LEVEL_TWO, 1}, {"lfts_fill2", LFTS_PHASE_LEVEL_TWO, 1},
-    {"lfts_evict2", LFTS_PHASE_LEVEL_TWO, 1}, {"lfts_fence", LFTS_NO_PHASE, 2},
-    {"lfts_second_merge", LFTS_PHASE_LEVEL_TWO, 3},
+    {"lfts_issue", LFTS_PHASE_ISSUES, 1, 4}, {"lfts_reply", LFTS_PHASE_REPLIES, 1, 4},
+    {"lfts_hit", LFTS_PHASE_LEVEL_ONE, 1, 4}, {"lfts_primary", LFTS_PHASE_LEVEL_ONE, 1, 4},
+    {"lfts_merge", LFTS_PHASE_LEVEL_ONE, 1, 4}, {"lfts_stall", LFTS_PHASE_LEVEL_ONE, 1, 4},
+    {"lfts_fill1", LFTS_PHASE_LEVEL_ONE, 1, 4}, {"lfts_evict1", LFTS_PHASE_LEVEL_ONE, 1, 4},
+    {"lfts_second_hit", LFTS_PHASE_LEVEL_TWO, 1, 3}, {"lfts_second_primary", LFTS_PHASE_LEVEL_TWO, 1, 3},
+    {"lfts_second_stall", LFTS_PHASE_LEVEL_TWO, 1, 3}, {"lfts_fill2", LFTS_PHASE_LEVEL_TWO, 1, 3},
+    {"lfts_evict2", LFTS_PHASE_LEVEL_TWO, 1, 3}, {"lfts_fence", LFTS_NO_PHASE, 2, 4},
+    {"lfts_second_merge", LFTS_PHASE_LEVEL_TWO, 3, 3}, {"lfts_masked", LFTS_PHASE_ISSUES, 4, 4},
+    {"lfts_grant", LFTS_PHASE_LEVEL_ONE, 4, 4}, {"lfts_clean1", LFTS_PHASE_LEVEL_ONE, 4, 4},
+    {"lfts_yield1", LFTS_PHASE_LEVEL_ONE, 4, 4}, {"lfts_outside", LFTS_PHASE_LEVEL_ONE, 4, 4},
 };
 // clang-format on
 
@@ -341,6 +362,12 @@ static bool lfts_has_bytes(lfts_recorder *r, const void *bytes, bool due) {
 static bool lfts_is_mask(lfts_recorder *r, uint64_t mask) {
     if (r->block == 64 || mask >> r->block == 0) return true;
     return lfts_refuse(r, LFTS_RANGE, "mask is 0x%" PRIx64 "; allowed: bits 0 to %u", mask, r->block - 1);
+}
+
+// A mask with one byte at least.
+static bool lfts_is_some_mask(lfts_recorder *r, uint64_t mask) {
+    if (mask != 0) return lfts_is_mask(r, mask);
+    return lfts_refuse(r, LFTS_RANGE, "mask is 0x0; allowed: some of bits 0 to %u", r->block - 1);
 }
 
 static bool lfts_is_power(unsigned value, unsigned least, unsigned most) {
@@ -498,6 +525,8 @@ static bool lfts_enter_event(lfts_recorder *r, unsigned kind, unsigned log, unsi
     if (!lfts_enter(r, row->call)) return false;
     if (r->version < row->version)
         return lfts_refuse(r, LFTS_VERSION, "version is %u; allowed: from %u on", r->version, row->version);
+    if (r->version > row->last)
+        return lfts_refuse(r, LFTS_VERSION, "version is %u; allowed: up to %u", r->version, row->last);
     return kind == LFTS_FENCE || lfts_in(r, "bank", bank, 0, r->banks - 1);
 }
 
@@ -591,13 +620,13 @@ static bool lfts_number_cycle(lfts_recorder *r) {
 }
 
 static bool lfts_is_shape(lfts_recorder *r) {
-    if (!lfts_in(r, "version", r->version, 1, 3)) return false;
+    if (!lfts_in(r, "version", r->version, 1, 4)) return false;
     if (!lfts_in(r, "ports", r->ports, 1, 16) || !lfts_in(r, "banks", r->banks, 1, 16)) return false;
     if (!lfts_is_power(r->block, 8, 64))
         return lfts_refuse(r, LFTS_RANGE, "block is %u; allowed: 8, 16, 32 or 64", r->block);
     if (!lfts_is_power(r->factor, 1, r->version == 3 ? 4 : 1))
         return lfts_refuse(r, LFTS_RANGE, "factor is %u; allowed: %s", r->factor,
-                           r->version == 3 ? "1, 2 or 4" : "1, before version 3");
+                           r->version == 3 ? "1, 2 or 4" : r->version < 3 ? "1, before version 3" : "1, in version 4");
     return true;
 }
 
@@ -709,11 +738,30 @@ lfts_status lfts_issue(lfts_recorder *r, unsigned port, unsigned bank, lfts_op o
     return lfts_end(r, lfts_put_bytes(at, bytes, op == LFTS_STORE ? size : 0));
 }
 
+lfts_status lfts_masked(lfts_recorder *r, unsigned port, unsigned bank, lfts_op op, unsigned tag, uint32_t block,
+                        uint64_t mask, const void *bytes) {
+    uint8_t *at;
+    if (!lfts_enter_port(r, LFTS_MASKED, port, bank) || !lfts_in(r, "op", (uint64_t)op, 0, 1) ||
+        !lfts_in(r, "tag", tag, 0, 255) || !lfts_of_second(r, block, bank) || !lfts_is_some_mask(r, mask) ||
+        !lfts_has_bytes(r, bytes, op == LFTS_STORE) || !(at = lfts_begin(r)))
+        return r->status;
+    at = lfts_put4(at, (unsigned)op | tag << 8);
+    at = lfts_put4(at, block);
+    at = lfts_put8(at, mask);
+    return lfts_end(r, op == LFTS_STORE ? lfts_put_masked(at, mask, bytes) : at);
+}
+
+// In version 4 a reply has up to the bytes of a block.
+static bool lfts_is_reply(lfts_recorder *r, unsigned size) {
+    if (r->version < 4) return size == 0 || lfts_is_size(r, size, "0, 1, 2, 4 or 8");
+    return size <= r->block || lfts_refuse(r, LFTS_SIZE, "size is %u; allowed: 0 to %u", size, r->block);
+}
+
 lfts_status lfts_reply(lfts_recorder *r, unsigned port, unsigned bank, unsigned tag, unsigned size,
                        const void *bytes) {
     uint8_t *at;
     if (!lfts_enter_port(r, LFTS_REPLY, port, bank) || !lfts_in(r, "tag", tag, 0, 255) ||
-        (size != 0 && !lfts_is_size(r, size, "0, 1, 2, 4 or 8")) || !lfts_has_bytes(r, bytes, size != 0) ||
+        !lfts_is_reply(r, size) || !lfts_has_bytes(r, bytes, size != 0) ||
         !(at = lfts_begin(r)))
         return r->status;
     at = lfts_put4(at, tag | size << 8);
@@ -761,14 +809,44 @@ lfts_status lfts_fill1(lfts_recorder *r, unsigned bank, uint32_t block, const vo
     return lfts_end(r, lfts_put_bytes(at, bytes, r->block));
 }
 
-lfts_status lfts_evict1(lfts_recorder *r, unsigned bank, uint32_t block, uint64_t mask, const void *bytes) {
+// Evict1, Clean1 and Outside.
+static lfts_status lfts_carry(lfts_recorder *r, unsigned kind, unsigned bank, uint32_t block, uint64_t mask,
+                              const void *bytes) {
     uint8_t *at;
-    if (!lfts_enter_bank(r, LFTS_EVICT1, bank) || !lfts_of_second(r, block >> r->factor_shift, bank) ||
-        !lfts_is_mask(r, mask) || (mask != 0 && !lfts_has_bytes(r, bytes, true)) || !(at = lfts_begin(r)))
+    if (!lfts_enter_bank(r, kind, bank) || !lfts_of_second(r, block >> r->factor_shift, bank) ||
+        !(kind == LFTS_OUTSIDE ? lfts_is_some_mask(r, mask) : lfts_is_mask(r, mask)) ||
+        (mask != 0 && !lfts_has_bytes(r, bytes, true)) || !(at = lfts_begin(r)))
         return r->status;
     at = lfts_put4(at, block);
     at = lfts_put8(at, mask);
     return lfts_end(r, lfts_put_masked(at, mask, bytes));
+}
+
+lfts_status lfts_evict1(lfts_recorder *r, unsigned bank, uint32_t block, uint64_t mask, const void *bytes) {
+    return lfts_carry(r, LFTS_EVICT1, bank, block, mask, bytes);
+}
+
+lfts_status lfts_clean1(lfts_recorder *r, unsigned bank, uint32_t block, uint64_t mask, const void *bytes) {
+    return lfts_carry(r, LFTS_CLEAN1, bank, block, mask, bytes);
+}
+
+lfts_status lfts_outside(lfts_recorder *r, unsigned bank, uint32_t block, uint64_t mask, const void *bytes) {
+    return lfts_carry(r, LFTS_OUTSIDE, bank, block, mask, bytes);
+}
+
+// Grant and Yield1.
+static lfts_status lfts_right(lfts_recorder *r, unsigned kind, unsigned bank, uint32_t block) {
+    uint8_t *at;
+    if (!lfts_enter_bank(r, kind, bank) || !lfts_of_second(r, block, bank) || !(at = lfts_begin(r))) return r->status;
+    return lfts_end(r, lfts_put4(at, block));
+}
+
+lfts_status lfts_grant(lfts_recorder *r, unsigned bank, uint32_t block) {
+    return lfts_right(r, LFTS_GRANT, bank, block);
+}
+
+lfts_status lfts_yield1(lfts_recorder *r, unsigned bank, uint32_t block) {
+    return lfts_right(r, LFTS_YIELD1, bank, block);
 }
 
 // SecondHit, SecondPrimary, SecondMerge and SecondStall. The middle two have a register.

@@ -54,7 +54,7 @@ template <class T> class view {
 using bytes = view<std::uint8_t>;
 using masks = view<std::uint64_t>;
 
-// What the trace is of. The version is 3 where a second-level block has 2 or 4 blocks.
+// What the trace is of. The version is 3 where a second-level block has 2 or 4 blocks, and 4 for a cache by itself.
 struct shape {
     unsigned ports = 1, banks = 1, block = 64, factor = 1, version = 2;
 };
@@ -122,6 +122,16 @@ class recorder {
     lfts_status reply(unsigned port, unsigned bank, unsigned tag, bytes data = {}) {
         return told(lfts_reply(at(), port, bank, tag, small(data), data.size() ? data.data() : nullptr));
     }
+    // The bytes of a block under a mask. The whole block, of which a store writes those of the mask. Of a cache by
+    // itself, as what is further marked so.
+    lfts_status masked_load(unsigned port, unsigned bank, unsigned tag, std::uint32_t block, std::uint64_t mask) {
+        return told(lfts_masked(at(), port, bank, LFTS_LOAD, tag, block, mask, nullptr));
+    }
+    lfts_status masked_store(unsigned port, unsigned bank, unsigned tag, std::uint32_t block, std::uint64_t mask,
+                             bytes data) {
+        if (!has("masked", data, block_bytes())) return LFTS_BYTES;
+        return told(lfts_masked(at(), port, bank, LFTS_STORE, tag, block, mask, data.data()));
+    }
     lfts_status fence(unsigned port) { return told(lfts_fence(at(), port)); }
 
     // Events of level one.
@@ -142,6 +152,19 @@ class recorder {
     lfts_status evict1(unsigned bank, std::uint32_t block, std::uint64_t mask, bytes data = {}) {
         if (!(mask == 0 && data.size() == 0) && !has("evict1", data, block_bytes())) return LFTS_BYTES;
         return told(lfts_evict1(at(), bank, block, mask, data.data()));
+    }
+
+    // Events of a cache by itself. The bytes are as those of evict1, but the outside writes one at least.
+
+    lfts_status grant(unsigned bank, std::uint32_t block) { return told(lfts_grant(at(), bank, block)); }
+    lfts_status clean1(unsigned bank, std::uint32_t block, std::uint64_t mask, bytes data = {}) {
+        if (!(mask == 0 && data.size() == 0) && !has("clean1", data, block_bytes())) return LFTS_BYTES;
+        return told(lfts_clean1(at(), bank, block, mask, data.data()));
+    }
+    lfts_status yield1(unsigned bank, std::uint32_t block) { return told(lfts_yield1(at(), bank, block)); }
+    lfts_status outside(unsigned bank, std::uint32_t block, std::uint64_t mask, bytes data) {
+        if (!has("outside", data, block_bytes())) return LFTS_BYTES;
+        return told(lfts_outside(at(), bank, block, mask, data.data()));
     }
 
     // Events of level two.

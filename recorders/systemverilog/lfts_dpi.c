@@ -115,6 +115,27 @@ int lfts_dpi_evict1(void *r, unsigned bank, unsigned block, uint64_t mask, const
     return lfts_evict1(recorder(r), bank, block, mask, data);
 }
 
+int lfts_dpi_masked(void *r, unsigned port, unsigned bank, unsigned op, unsigned tag, unsigned block, uint64_t mask,
+                    const svBitVecVal *data) {
+    return lfts_masked(recorder(r), port, bank, (lfts_op)op, tag, block, mask, op == LFTS_STORE ? data : NULL);
+}
+
+int lfts_dpi_reply_block(void *r, unsigned port, unsigned bank, unsigned tag, unsigned size, const svBitVecVal *data) {
+    return lfts_reply(recorder(r), port, bank, tag, size, size > 0 ? data : NULL);
+}
+
+int lfts_dpi_grant(void *r, unsigned bank, unsigned block) { return lfts_grant(recorder(r), bank, block); }
+
+int lfts_dpi_clean1(void *r, unsigned bank, unsigned block, uint64_t mask, const svBitVecVal *data) {
+    return lfts_clean1(recorder(r), bank, block, mask, data);
+}
+
+int lfts_dpi_yield1(void *r, unsigned bank, unsigned block) { return lfts_yield1(recorder(r), bank, block); }
+
+int lfts_dpi_outside(void *r, unsigned bank, unsigned block, uint64_t mask, const svBitVecVal *data) {
+    return lfts_outside(recorder(r), bank, block, mask, data);
+}
+
 int lfts_dpi_second_hit(void *r, unsigned bank, unsigned block) { return lfts_second_hit(recorder(r), bank, block); }
 
 int lfts_dpi_second_primary(void *r, unsigned bank, unsigned block, unsigned miss_register) {

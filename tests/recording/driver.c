@@ -105,6 +105,15 @@ static lfts_status issue(lfts_recorder *r) {
     return lfts_issue(r, port, bank, op, tag, size, address, bytes());
 }
 
+static lfts_status masked(lfts_recorder *r) {
+    unsigned port = small(), bank = small();
+    lfts_op op = (lfts_op)number();
+    unsigned tag = small();
+    uint32_t named = block();
+    uint64_t mask = number();
+    return lfts_masked(r, port, bank, op, tag, named, mask, bytes());
+}
+
 static lfts_status reply(lfts_recorder *r) {
     unsigned port = small(), bank = small(), tag = small(), size = small();
     return lfts_reply(r, port, bank, tag, size, bytes());
@@ -140,11 +149,12 @@ static lfts_status second_miss_with(lfts_recorder *r,
     return call(r, bank, missed, small());
 }
 
-static lfts_status evict1(lfts_recorder *r) {
+static lfts_status carry_with(lfts_recorder *r,
+                              lfts_status (*call)(lfts_recorder *, unsigned, uint32_t, uint64_t, const void *)) {
     unsigned bank = small();
-    uint32_t victim = block();
+    uint32_t named = block();
     uint64_t mask = number();
-    return lfts_evict1(r, bank, victim, mask, bytes());
+    return call(r, bank, named, mask, bytes());
 }
 
 static lfts_status evict2(lfts_recorder *r) {
@@ -190,6 +200,7 @@ static lfts_status call_of_recorder(recorder *one, const char *name) {
 static lfts_status call_of_event(recorder *one, const char *name) {
     lfts_recorder *r = &one->r;
     if (strcmp(name, "issue") == 0) return issue(r);
+    if (strcmp(name, "masked") == 0) return masked(r);
     if (strcmp(name, "reply") == 0) return reply(r);
     if (strcmp(name, "fence") == 0) return lfts_fence(r, small());
     if (strcmp(name, "hit") == 0) return access_with(r, lfts_hit);
@@ -197,7 +208,11 @@ static lfts_status call_of_event(recorder *one, const char *name) {
     if (strcmp(name, "merge") == 0) return miss_with(r, lfts_merge);
     if (strcmp(name, "stall") == 0) return access_with(r, lfts_stall);
     if (strcmp(name, "fill1") == 0) return fill_with(r, lfts_fill1);
-    if (strcmp(name, "evict1") == 0) return evict1(r);
+    if (strcmp(name, "evict1") == 0) return carry_with(r, lfts_evict1);
+    if (strcmp(name, "grant") == 0) return look_up_with(r, lfts_grant);
+    if (strcmp(name, "clean1") == 0) return carry_with(r, lfts_clean1);
+    if (strcmp(name, "yield1") == 0) return look_up_with(r, lfts_yield1);
+    if (strcmp(name, "outside") == 0) return carry_with(r, lfts_outside);
     if (strcmp(name, "second_hit") == 0) return look_up_with(r, lfts_second_hit);
     if (strcmp(name, "second_primary") == 0) return second_miss_with(r, lfts_second_primary);
     if (strcmp(name, "second_merge") == 0) return second_miss_with(r, lfts_second_merge);

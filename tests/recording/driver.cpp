@@ -65,11 +65,27 @@ void reply(lfts::recorder &r, words &w) {
     r.reply(port, bank, tag, w.bytes());
 }
 
-void evict1(lfts::recorder &r, words &w) {
+void masked(lfts::recorder &r, words &w) {
+    unsigned port = w.small(), bank = w.small(), op = w.small(), tag = w.small();
+    std::uint32_t block = w.block();
+    std::uint64_t mask = w.number();
+    if (op == 0) r.masked_load(port, bank, tag, block, mask);
+    if (op == 1) r.masked_store(port, bank, tag, block, mask, w.bytes());
+}
+
+void of_mask(lfts::recorder &r, const std::string &name, words &w) {
     unsigned bank = w.small();
     std::uint32_t block = w.block();
     std::uint64_t mask = w.number();
-    r.evict1(bank, block, mask, w.bytes());
+    if (name == "evict1") r.evict1(bank, block, mask, w.bytes());
+    if (name == "clean1") r.clean1(bank, block, mask, w.bytes());
+    if (name == "outside") r.outside(bank, block, mask, w.bytes());
+}
+
+void of_right(lfts::recorder &r, const std::string &name, words &w) {
+    unsigned bank = w.small();
+    if (name == "grant") r.grant(bank, w.block());
+    if (name == "yield1") r.yield1(bank, w.block());
 }
 
 void evict2(lfts::recorder &r, words &w) {
@@ -123,7 +139,9 @@ void call(lfts::recorder &r, const std::string &name, words &w) {
     if (control(r, name, w)) return;
     if (name == "issue") return issue(r, w);
     if (name == "reply") return reply(r, w);
-    if (name == "evict1") return evict1(r, w);
+    if (name == "masked") return masked(r, w);
+    if (name == "evict1" || name == "clean1" || name == "outside") return of_mask(r, name, w);
+    if (name == "grant" || name == "yield1") return of_right(r, name, w);
     if (name == "evict2") return evict2(r, w);
     if (name.rfind("second_", 0) == 0 || name == "fill2") return of_level_two(r, name, w);
     of_level_one(r, name, w);

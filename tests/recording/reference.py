@@ -13,7 +13,7 @@ from typing import Callable
 
 HERE = Path(__file__).resolve().parent
 EXAMPLES = HERE.parent.parent / "examples"
-EVERY_KIND = {1: "every_kind.toml", 2: "every_kind.toml", 3: "every_kind_wide.toml"}
+EVERY_KIND = {1: "every_kind.toml", 2: "every_kind.toml", 3: "every_kind_wide.toml", 4: "every_kind_alone.toml"}
 
 KINDS = {
     "issue": 1,
@@ -31,7 +31,19 @@ KINDS = {
     "evict2": 13,
     "fence": 14,
     "second_merge": 15,
+    "masked": 16,
+    "grant": 17,
+    "clean1": 18,
+    "yield1": 19,
+    "outside": 20,
 }
+
+
+def has_kind(version: int, name: str) -> bool:
+    kind = KINDS[name]
+    if version == 4:
+        return kind <= 8 or kind == 14 or kind >= 16
+    return kind <= {1: 13, 2: 14, 3: 15}[version]
 
 
 @dataclass(frozen=True)
@@ -65,7 +77,7 @@ class Trace:
             self.records.append(self.head(name, words) + body(name, words))
 
     def head(self, name: str, words: list[str]) -> bytes:
-        of_port = name in ("issue", "reply")
+        of_port = name in ("issue", "reply", "masked")
         bank = number(words[1] if of_port else words[0])
         log = number(words[0]) if of_port else self.shape.ports + bank
         at = self.numbers.get(bank, 0)
@@ -98,6 +110,9 @@ def body(name: str, words: list[str]) -> bytes:
     if name == "issue":
         op, tag, size, address = map(number, words[2:6])
         return struct.pack("<BBBBQ", op, tag, size, 0, address) + data(words[6])
+    if name == "masked":
+        op, tag, block, mask = map(number, words[2:6])
+        return struct.pack("<BBHIQ", op, tag, 0, block, mask) + masked(mask, data(words[6]))
     if name == "reply":
         tag, size = map(number, words[2:4])
         return struct.pack("<BBH", tag, size, 0) + data(words[4])
@@ -106,7 +121,7 @@ def body(name: str, words: list[str]) -> bytes:
     if name in ("primary", "merge"):
         return struct.pack("<BBH", *map(number, words[1:4]))
     block = struct.pack("<I", number(words[1]))
-    if name in ("second_hit", "second_stall"):
+    if name in ("second_hit", "second_stall", "grant", "yield1"):
         return block
     if name in ("second_primary", "second_merge"):
         return block + struct.pack("<HH", number(words[2]), 0)
@@ -143,14 +158,17 @@ def hexadecimal(line: str, shape: Shape) -> str:
     elif name == "evict2":
         numbers[:2] = map(number, words[:2])
         mask = sum(number(word) << place * shape.block for place, word in enumerate(words[2:-1]))
-    elif name == "evict1":
+    elif name in ("evict1", "clean1", "outside"):
         numbers[:2], mask = map(number, words[:2]), number(words[2])
+    elif name == "masked":
+        numbers, mask = [number(word) for word in words[:5]], number(words[5])
     elif name == "issue":
         numbers, address = [number(word) for word in words[:5]], number(words[5])
     else:
         count = {"memory": 1, "reply": 4, "fill1": 2, "fill2": 2, "map": 0}.get(name, len(words))
         numbers[:count] = map(number, words[:count])
-    if name in ("memory", "issue", "reply", "fill1", "fill2", "evict1", "evict2") and words[-1] != "-":
+    of_data = ("memory", "issue", "masked", "reply", "fill1", "fill2", "evict1", "evict2", "clean1", "outside")
+    if name in of_data and words[-1] != "-":
         data = int.from_bytes(bytes.fromhex(words[-1]), "little")
     numbers += [0] * (5 - len(numbers))
     return " ".join([name, *(f"{value:x}" for value in (*numbers, address, mask, data))])
@@ -178,7 +196,7 @@ class Chance:
         return [f"open {shape.ports} {shape.banks} {shape.block} {shape.factor} {shape.version}", *lines]
 
     def shape(self) -> Shape:
-        version = self.random.choice((1, 2, 3))
+        version = self.random.choice((1, 2, 3, 4))
         factor = self.random.choice((1, 2, 4)) if version == 3 else 1
         ports, banks = self.random.randint(1, 16), self.random.randint(1, 16)
         return Shape(ports, banks, self.random.choice((8, 16, 32, 64)), factor, version)
@@ -197,9 +215,13 @@ class Chance:
         return self.below((1 << 32) // shape.factor)
 
     def event(self, shape: Shape) -> str:
-        last = {1: "evict2", 2: "fence", 3: "second_merge"}[shape.version]
-        name = self.random.choice([kind for kind in KINDS if KINDS[kind] <= KINDS[last]])
-        makers: dict[str, Callable[[Shape], str]] = {"issue": self.issue, "reply": self.reply, "fence": self.port}
+        name = self.random.choice([kind for kind in KINDS if has_kind(shape.version, kind)])
+        makers: dict[str, Callable[[Shape], str]] = {
+            "issue": self.issue,
+            "masked": self.masked,
+            "reply": self.reply,
+            "fence": self.port,
+        }
         words = makers.get(name, lambda shape: self.of_bank(name, shape))(shape)
         return f"{name} {words}"
 
@@ -212,8 +234,13 @@ class Chance:
         address = block * shape.block + self.below(shape.block // size) * size
         return f"{self.port(shape)} {bank} {op} {self.below(256)} {size} {address:#x} {self.bytes(size) if op else '-'}"
 
+    def masked(self, shape: Shape) -> str:
+        block, op, mask = self.below(1 << 32), self.random.randrange(2), self.mask(shape.block) or 1
+        head = f"{self.port(shape)} {block % shape.banks} {op} {self.below(256)} {block} {mask:#x}"
+        return f"{head} {self.bytes(shape.block) if op else '-'}"
+
     def reply(self, shape: Shape) -> str:
-        size = self.random.choice((0, 1, 2, 4, 8))
+        size = self.random.randint(0, shape.block) if shape.version == 4 else self.random.choice((0, 1, 2, 4, 8))
         head = f"{self.port(shape)} {self.below(shape.banks)} {self.below(256)} {size}"
         return f"{head} {self.bytes(size) if size else '-'}"
 
@@ -225,13 +252,15 @@ class Chance:
             return f"{self.below(shape.banks)} {self.below(256)} {self.below(256)}"
         if name in ("primary", "merge"):
             return f"{self.below(shape.banks)} {self.below(256)} {self.below(256)} {self.below(65536)}"
-        if name in ("second_hit", "second_stall"):
+        if name in ("second_hit", "second_stall", "grant", "yield1"):
             return f"{bank} {block}"
         if name in ("second_primary", "second_merge"):
             return f"{bank} {block} {self.below(65536)}"
         if name == "fill1":
             return f"{bank} {block} {self.bytes(shape.block)}"
-        if name == "evict1":
+        if name == "outside":
+            return f"{bank} {block} {self.mask(shape.block) or 1:#x} {self.bytes(shape.block)}"
+        if name in ("evict1", "clean1"):
             return f"{bank} {block} {self.mask(shape.block):#x} {self.bytes(shape.block)}"
         if name == "fill2":
             return f"{bank} {second} {self.bytes(shape.factor * shape.block)}"

@@ -24,7 +24,7 @@ C = TOP / "recorders/c"
 WARNINGS = "-Wall -Wextra -Wpedantic -Wconversion -Wshadow -Wold-style-cast -Werror".split()
 SEQUENCES = 1000
 CALLS = 40
-OWN_PHASE = {"reply": 0, "issue": 3, "fill2": 1, "evict2": 1}
+OWN_PHASE = {"reply": 0, "issue": 3, "masked": 3, "fill2": 1, "evict2": 1}
 
 
 class Sequence_(NamedTuple):
@@ -46,7 +46,7 @@ def misuse(chance: Chance, shape: Shape) -> str:
         "primary 0 0 0 65536",
         "merge 0 256 0 0",
         f"reply {shape.ports} 0 0 0 -",
-        "reply 0 0 0 3 010203",
+        "reply 0 0 0 3 010203" if shape.version < 4 else f"reply 0 0 0 65 {'01' * 65}",
         "issue 0 0 0 0 8 0x4 -",
         "issue 0 0 1 0 3 0x0 010203",
         f"fence {shape.ports}",
@@ -121,7 +121,8 @@ def is_misuse(call: str, shape: Shape) -> bool:
         or words[:2] in (["fence", str(shape.ports)], ["reply", str(shape.ports)])
         or words[1] == str(shape.banks)
         and words[0] in ("hit", "second_hit")
-        or call in ("stall 0 0 256", "primary 0 0 0 65536", "merge 0 256 0 0", "reply 0 0 0 3 010203")
+        or call in ("stall 0 0 256", "primary 0 0 0 65536", "merge 0 256 0 0")
+        or call in ("reply 0 0 0 3 010203" if shape.version < 4 else f"reply 0 0 0 65 {'01' * 65}",)
         or call in ("issue 0 0 0 0 8 0x4 -", "issue 0 0 1 0 3 0x0 010203")
     )
 
@@ -189,7 +190,7 @@ class Player:
             call(numbers[0], data(words[-1]))
         elif name == "reply":
             call(*numbers[:3], data(words[-1]), **self.phase)
-        elif name in ("issue", "fill1", "evict1"):
+        elif name in ("issue", "masked", "fill1", "evict1", "clean1", "outside"):
             call(*numbers, data(words[-1]), **self.phase)
         elif name == "fill2":
             call(*numbers, self.parts(words[-1]), **self.phase)

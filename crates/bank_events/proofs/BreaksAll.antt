@@ -1,8 +1,10 @@
 -- Each event breaks the same rule of a bank first by the state of the model and by what the bank knows.
+use Rattle.std.proofs.Common.{refl}
 use Rattle.lf_rules.specs.declared.event.Event.{Event}
 use Rattle.lf_rules.specs.declared.event.Event.TheVariants.{Issue, Reply, Fence, Hit, Primary, Merge, Stall, Fill1}
 use Rattle.lf_rules.specs.declared.event.Event.TheVariants.{Evict1, SecondHit, SecondPrimary, SecondMerge}
-use Rattle.lf_rules.specs.declared.event.Event.TheVariants.{SecondStall, Fill2, Evict2}
+use Rattle.lf_rules.specs.declared.event.Event.TheVariants.{SecondStall, Fill2, Evict2, Masked, Grant, Clean1, Yield1}
+use Rattle.lf_rules.specs.declared.event.Event.TheVariants.{Outside}
 use Rattle.bank_events.specs.Agrees.{BreaksAlike}
 use Rattle.bank_events.proofs.Breaks.{breaks_issue, breaks_reply, breaks_fence, breaks_hit, breaks_primary}
 use Rattle.bank_events.proofs.Breaks.{breaks_merge}
@@ -26,3 +28,8 @@ breaks_alike (SecondMerge block register) = breaks_second_merge block register
 breaks_alike (SecondStall block) = breaks_second_stall block
 breaks_alike (Fill2 second bytes) = breaks_fill2 second bytes
 breaks_alike (Evict2 second masks bytes) = breaks_evict2 second masks bytes
+breaks_alike (Masked op tag block mask bytes) = λ shape now k log bank each a. refl
+breaks_alike (Grant block) = λ shape now k log bank each a. refl
+breaks_alike (Clean1 block mask bytes) = λ shape now k log bank each a. refl
+breaks_alike (Yield1 block) = λ shape now k log bank each a. refl
+breaks_alike (Outside block mask bytes) = λ shape now k log bank each a. refl

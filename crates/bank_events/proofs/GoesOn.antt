@@ -2,7 +2,8 @@
 use Rattle.lf_rules.specs.declared.event.Event.{Event}
 use Rattle.lf_rules.specs.declared.event.Event.TheVariants.{Issue, Reply, Fence, Hit, Primary, Merge, Stall, Fill1}
 use Rattle.lf_rules.specs.declared.event.Event.TheVariants.{Evict1, SecondHit, SecondPrimary, SecondMerge}
-use Rattle.lf_rules.specs.declared.event.Event.TheVariants.{SecondStall, Fill2, Evict2}
+use Rattle.lf_rules.specs.declared.event.Event.TheVariants.{SecondStall, Fill2, Evict2, Masked, Grant, Clean1, Yield1}
+use Rattle.lf_rules.specs.declared.event.Event.TheVariants.{Outside}
 use Rattle.bank_events.specs.Agrees.{GoesOnAlike}
 use Rattle.bank_events.proofs.AfterPort.{after_issue, after_reply, after_hit, after_stall, after_second_stall}
 use Rattle.bank_events.proofs.AfterPort.{after_fence}
@@ -27,3 +28,9 @@ goes_on_alike (SecondMerge block register) = after_second_merge block register
 goes_on_alike (SecondStall block) = after_second_stall block
 goes_on_alike (Fill2 second bytes) = after_fill2 second bytes
 goes_on_alike (Evict2 second masks bytes) = after_evict2 second masks bytes
+-- what only a cache by itself records breaks a rule
+goes_on_alike (Masked op tag block mask bytes) = λ shape now k log each a none. a
+goes_on_alike (Grant block) = λ shape now k log each a none. a
+goes_on_alike (Clean1 block mask bytes) = λ shape now k log each a none. a
+goes_on_alike (Yield1 block) = λ shape now k log each a none. a
+goes_on_alike (Outside block mask bytes) = λ shape now k log each a none. a

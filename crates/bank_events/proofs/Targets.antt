@@ -65,7 +65,7 @@ nobody = record {
   target = record {
     port = 0;
     request =
-        record { tag = 0; op = Load; block = 0; offset = 0; size = 0; bytes = [] };
+        record { tag = 0; op = Load; block = 0; offset = 0; size = 0; mask = 0; bytes = [] };
     value = [];
   };
 }

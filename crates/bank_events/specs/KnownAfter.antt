@@ -2,7 +2,7 @@
 use Rattle.std.specs.Prelude.{ℕ, ◌+◌, ◌-◌, ◌==◌, bit_or, List, [], ◌∷◌, ◌++◌, map, drop, if◌then◌else◌}
 use Rattle.lf_rules.specs.declared.shape.Shape.{Shape}
 use Rattle.lf_rules.specs.declared.event.Event.{Event}
-use Rattle.lf_rules.specs.declared.event.Event.TheVariants.{Issue, Reply, Fence, Hit, Primary, Merge, Stall, Fill1}
+use Rattle.lf_rules.specs.declared.event.Event.TheVariants.{Issue, Reply, Hit, Primary, Merge, Stall, Fill1}
 use Rattle.lf_rules.specs.declared.event.Event.TheVariants.{Evict1, SecondHit, SecondPrimary, SecondMerge}
 use Rattle.lf_rules.specs.declared.event.Event.TheVariants.{SecondStall, Fill2, Evict2}
 use Rattle.lf_rules.specs.Address.{second_of}
@@ -110,4 +110,4 @@ known_after shape k log (Evict2 second masks bytes) =
       second = update k.second second level2.Absent;
       counts2 = update k.counts2 (set2 shape second) (k.counts2 (set2 shape second) - 1);
     }
-known_after shape k log Fence = k
+known_after shape k log _ = k

@@ -1,5 +1,5 @@
 -- The rules of a bank, by what it knows block by block: the clauses of each event in order.
-use Rattle.std.specs.Prelude.{ℕ, ◌/◌, Bool, not, ◌&&◌, ◌==◌, nat_lt, List, [], ◌∷◌, length, bytes_eq, Option}
+use Rattle.std.specs.Prelude.{ℕ, ◌/◌, Bool, false, not, ◌&&◌, ◌==◌, nat_lt, List, [], ◌∷◌, length, bytes_eq, Option}
 use Rattle.std.specs.List.{list_all, list_any}
 use Rattle.lf_rules.specs.declared.shape.Shape.{Shape}
 use Rattle.lf_rules.specs.declared.mask.Mask.{Mask}
@@ -7,11 +7,12 @@ use Rattle.lf_rules.specs.declared.rule.Rule.{Rule}
 use Rattle.lf_rules.specs.declared.event.Event.{Event}
 use Rattle.lf_rules.specs.declared.event.Event.TheVariants.{Issue, Reply, Fence, Hit, Primary, Merge, Stall, Fill1}
 use Rattle.lf_rules.specs.declared.event.Event.TheVariants.{Evict1, SecondHit, SecondPrimary, SecondMerge}
-use Rattle.lf_rules.specs.declared.event.Event.TheVariants.{SecondStall, Fill2, Evict2}
+use Rattle.lf_rules.specs.declared.event.Event.TheVariants.{SecondStall, Fill2, Evict2, Masked, Grant, Clean1, Yield1}
+use Rattle.lf_rules.specs.declared.event.Event.TheVariants.{Outside}
 use Rattle.lf_rules.specs.declared.rule.Rule.TheVariants.{TagRange, NotReady, ReplySize, ReplyData, NotHead, NotPresent}
 use Rattle.lf_rules.specs.declared.rule.Rule.TheVariants.{Present, NeedlessStall, NotSupplied, SetFull, FillData}
 use Rattle.lf_rules.specs.declared.rule.Rule.TheVariants.{EvictAbsent, EvictMask, EvictData, NotAsked, SecondAbsent}
-use Rattle.lf_rules.specs.declared.rule.Rule.TheVariants.{SecondPresent, NotFetched, Inclusion}
+use Rattle.lf_rules.specs.declared.rule.Rule.TheVariants.{SecondPresent, NotFetched, Inclusion, OutsideHeld}
 use Rattle.lf_rules.specs.Address.{second_of, place_of, sub_block, places, set1_of, set2_of, block_bytes, part_at}
 use Rattle.lf_rules.specs.Address.{agree_off, masked, wide_masked, mask_at}
 use Rattle.lf_rules.specs.Clauses.{Clause, OfBank, bank_wants, both_want}
@@ -119,6 +120,12 @@ known_rules shape k log (Evict2 second masks bytes) =
     ∷ bank_wants EvictData (bytes_eq bytes.items (wide_masked shape k.memory second masks))
     ∷ []
 known_rules shape k log Fence = []
+-- what only a cache by itself records
+known_rules shape k log (Masked op tag block mask bytes) = both_want OutsideHeld false ∷ []
+known_rules shape k log (Grant block) = bank_wants OutsideHeld false ∷ []
+known_rules shape k log (Clean1 block mask bytes) = bank_wants OutsideHeld false ∷ []
+known_rules shape k log (Yield1 block) = bank_wants OutsideHeld false ∷ []
+known_rules shape k log (Outside block mask bytes) = bank_wants OutsideHeld false ∷ []
 
 -- the first rule of the bank that an event of a log breaks
 abbrev pub known_broken : Shape → Known → ℕ → Event → Option Rule

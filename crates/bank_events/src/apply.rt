@@ -8,6 +8,7 @@ use crate::bank::Bank;
 use crate::fault::BankFault;
 use bank_state::Request;
 use lf_mshr::{Organisation, Request1, Request2};
+use lf_rules::Rule;
 use trace_views::{EventView, RecordView};
 
 impl<O1: Organisation<Target = Request1>, O2: Organisation<Target = Request2>> Bank<O1, O2> {
@@ -55,6 +56,12 @@ impl<O1: Organisation<Target = Request1>, O2: Organisation<Target = Request2>> B
             } => self.evict2(block, &masks, bytes),
             // It names no bank, and no rule of a bank judges it.
             EventView::Fence => Ok(()),
+            // Only a cache by itself records these.
+            EventView::Masked { .. } => Err(BankFault::Rule(Rule::OutsideHeld)),
+            EventView::Grant { .. } => Err(BankFault::Rule(Rule::OutsideHeld)),
+            EventView::Clean1 { .. } => Err(BankFault::Rule(Rule::OutsideHeld)),
+            EventView::Yield1 { .. } => Err(BankFault::Rule(Rule::OutsideHeld)),
+            EventView::Outside { .. } => Err(BankFault::Rule(Rule::OutsideHeld)),
         }
     }
 }

@@ -19,6 +19,7 @@ pub use lists::{
     asked_register, asker_of, drop_asked, drop_block, drop_ready, push, ready_at, ready_for,
 };
 pub use memory::FlatMemory;
+pub use padded::Bytes;
 pub use places::{bank_of, part_at, place_of, second_of, sub_block};
 pub use queue::{Queue, drop_head, empty_queues, enqueue, head};
 pub use request::{Data, Ready, Request, data_of};

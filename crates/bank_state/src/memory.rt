@@ -236,8 +236,8 @@ impl FlatMemory {
         }
     }
 
-    /// The block gets these bytes.
-    fn set(&mut self, block: u32, bytes: Bytes) -> Result<(), NoMemory>
+    /// The block gets these bytes. `NoMemory` where a growth was refused, and nothing changes.
+    pub fn set(&mut self, block: u32, bytes: Bytes) -> Result<(), NoMemory>
         ensures ok { OnOk result (flat_of self.new ≡ update (flat_of self.old) block (slice_index bytes)) }
         ensures err { OnErr result (self.new ≡ self.old) }
     {

@@ -27,6 +27,7 @@ pub struct Request {
 }
 
 impl Model for Request {
+    ghost use Rattle.lf_rules.specs.Address.{mask_of};
     ghost use Rattle.lf_rules.specs.State as model;
     ghost use Rattle.bank_state.specs.Bytes.{IsWellSized};
 
@@ -38,6 +39,7 @@ impl Model for Request {
       block = r.block;
       offset = r.offset;
       size = r.size;
+      mask = mask_of r.offset r.size;
       bytes =
           r.bytes.items;
     } };
@@ -50,6 +52,7 @@ impl Model for Request {
           offset = r.offset;
           size =
               r.size;
+          mask = mask_of r.offset r.size;
           bytes = r.bytes.items;
         } in
         IsWellSized request };

@@ -106,7 +106,7 @@ fn miss_twice<O: Organisation>(
     second: O::Target,
 ) -> Result<(), Fail>
     requires names { O.names organisation.now ≡ true }
-    requires in_range { IsOrganisation organisation.now }
+    requires in_range { IsOrganisation 64 organisation.now }
 {
     let mut file = O::new(alloc, organisation, 4).ok().ok_or("no memory")?;
     let mut targets = Targets::new(alloc).ok().ok_or("no memory")?;

@@ -2,6 +2,7 @@
 
 ghost use Rattle.std.specs.Prelude.{◌≡◌};
 ghost use Rattle.lf_rules.specs.InRange.{IsShape};
+ghost use Rattle.lf_replay.specs.AnyView.{shape_of};
 
 use lf_replay::{BankFault, Step};
 use lf_rules::{Record, Shape, fits};
@@ -13,7 +14,7 @@ use trace_samples::{C1, memory_ran_out, records};
 /// one is no record of the bank.
 fn refused(step: &mut Step, shape: &Shape, records: &[Record]) -> Option<u32>
     requires in_range { IsShape shape.now }
-    requires shape { step.old.state.shape ≡ shape.now }
+    requires shape { shape_of step.old.state ≡ shape.now }
     requires bank { step.old.bank ≡ 0 }
 {
     let mut refused = 0u32;
@@ -61,7 +62,7 @@ fn a_step_goes_on_after_a_fault(rt: HostRuntime) -> Result<(), Fail> {
 /// was, or nothing where one is no record of the bank or is refused otherwise.
 pub fn applied(step: &mut Step, shape: &Shape, records: &[Record]) -> Option<bool>
     requires in_range { IsShape shape.now }
-    requires shape { step.old.state.shape ≡ shape.now }
+    requires shape { shape_of step.old.state ≡ shape.now }
     requires bank { step.old.bank ≡ 0 }
 {
     let mut is_told = false;

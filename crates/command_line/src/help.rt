@@ -35,12 +35,14 @@ and the tables level1 and level2, each with the keys
   entries       how many targets a register has; only for explicit
 
 level2 may have the key blocks: how many first-level blocks make one block
-of level two, 1, 2 or 4. Without it that is 1. docs/RULES.md has the limits
-of each key.
+of level two, 1, 2 or 4. Without it that is 1. With the key below = \"outside\"
+one cache is judged by itself. Then level2 may be absent, and level1 may have
+the key dirty, \"byte\" or \"line\". docs/RULES.md has the limits of each key.
 
 Traces:
-TRACE is of version 1, 2 or 3 of the format LFTS. Version 2 adds fences
+TRACE is of version 1, 2, 3 or 4 of the format LFTS. Version 2 adds fences
 and longer logs, version 3 blocks of level two that have 2 or 4 blocks.
+Version 4 is for a cache by itself.
 
 Examples:
   score check small.toml run.lfts

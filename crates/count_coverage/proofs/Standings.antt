@@ -7,7 +7,7 @@ use Rattle.std.proofs.lemmas.List.Sums.{length-filter, count_by-le-length}
 use Rattle.lf_rules.specs.declared.shape.Shape.{Shape}
 use Rattle.lf_rules.specs.declared.event.Record.{Record}
 use Rattle.lf_rules.specs.declared.event.Event.{Event}
-use Rattle.lf_rules.specs.declared.event.Event.TheVariants.{Primary, Merge, Fill1, SecondPrimary, SecondMerge, Fill2}
+use Rattle.lf_rules.specs.declared.event.Event.TheVariants.{Primary, Merge, Fill1, Grant, SecondPrimary, SecondMerge, Fill2}
 use Rattle.count_coverage.specs.declared.request.Request.{Request}
 use Rattle.count_coverage.specs.declared.supply.Asked.{Asked}
 use Rattle.count_coverage.specs.Standing.{Standing, with_request, waiting_after, asked_of, waiting2_after}
@@ -25,6 +25,9 @@ waiting_after_le : (latest : ℕ → ℕ → Option Request) (event : Event) (wa
 waiting_after_le latest (Primary port tag register) waiting = with_request_le (latest port tag) waiting
 waiting_after_le latest (Merge port tag register) waiting = with_request_le (latest port tag) waiting
 waiting_after_le latest (Fill1 block bytes) waiting =
+    let others = λ (request : Request). not (request.block == block) in
+    omega (arith, length-filter others waiting, count_by-le-length others waiting)
+waiting_after_le latest (Grant block) waiting =
     let others = λ (request : Request). not (request.block == block) in
     omega (arith, length-filter others waiting, count_by-le-length others waiting)
 waiting_after_le latest _ waiting = omega arith

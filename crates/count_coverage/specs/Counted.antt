@@ -6,10 +6,10 @@ use Rattle.count_coverage.specs.declared.point.BankPoint.{BankPoint}
 use Rattle.count_coverage.specs.declared.point.BankPoint.TheVariants as points
 use Rattle.count_coverage.specs.declared.point.PortPoint.{PortPoint}
 use Rattle.count_coverage.specs.declared.point.PortPoint.TheVariants.{Load}
-use Rattle.count_coverage.specs.declared.point.Point.TheVariants.{Bank}
+use Rattle.count_coverage.specs.declared.point.Point.TheVariants.{Bank, Port}
 use Rattle.count_coverage.specs.declared.tally.Tally.{Tally}
 use Rattle.count_coverage.specs.declared.counts.Counts.{Counts}
-use Rattle.count_coverage.specs.Reachable.{kinds, port_points}
+use Rattle.count_coverage.specs.Reachable.{kinds, port_kinds}
 
 -- ---- a bank
 
@@ -29,13 +29,13 @@ numbers_of counts measures.SecondField = counts.second_fields
 
 -- each point has this count
 pub record AreCounts (counts : Counts) (count : BankPoint → ℕ) : Type 0 where
-  pub of_kinds : (n : ℕ) → n < 37 → slice_index counts.kinds n ≡ count (kind_at n)
+  pub of_kinds : (n : ℕ) → n < 44 → slice_index counts.kinds n ≡ count (kind_at n)
   pub of_numbers : (measure : Measure) (n : ℕ) → n < 65
       → slice_index (numbers_of counts measure) n ≡ count (points.Numbered measure n)
 
 -- no count is great
 pub record AreFew (counts : Counts) : Type 0 where
-  pub of_kinds : (n : ℕ) → n < 37 → slice_index counts.kinds n < 2 ^ 29
+  pub of_kinds : (n : ℕ) → n < 44 → slice_index counts.kinds n < 2 ^ 29
   pub of_numbers : (measure : Measure) (n : ℕ) → n < 65 → slice_index (numbers_of counts measure) n < 2 ^ 29
 
 -- the point of the bank with this count
@@ -46,4 +46,8 @@ tally_of bank count point = record { point = Bank bank point; count = count poin
 
 -- the point of a port at this place, from 0, and past the last a load of no bytes
 abbrev pub port_point_at : ℕ → PortPoint
-port_point_at n = slice_index_or port_points n (Load 0)
+port_point_at n = slice_index_or port_kinds n (Load 0)
+
+-- the point of the port with this count
+abbrev pub port_tally_of : ℕ → (PortPoint → ℕ) → PortPoint → Tally
+port_tally_of port count point = record { point = Port port point; count = count point }

@@ -22,8 +22,8 @@ bank_tallies shape bank rs = map (bank_tally shape bank rs) (bank_points shape)
 abbrev pub port_tally : ℕ → List Record → PortPoint → Tally
 port_tally port log point = record { point = Port port point; count = port_reached log point }
 
-abbrev pub port_tallies : ℕ → List Record → List Tally
-port_tallies port log = map (port_tally port log) port_points
+abbrev pub port_tallies : Shape → ℕ → List Record → List Tally
+port_tallies shape port log = map (port_tally port log) (port_points shape)
 
 -- of the first banks: for each, its records of all logs in the order of their numbers
 abbrev pub AreOfBanks : Shape → List (List Record) → ℕ → List Tally → Type 0
@@ -33,12 +33,12 @@ AreOfBanks shape logs (suc bank) tallies =
     × ((order : List Record) × IsNumbered logs bank order × (tallies ≡ before ++ bank_tallies shape bank order))
 
 -- of the first ports
-abbrev pub of_ports : List (List Record) → ℕ → List Tally
-of_ports logs zero = []
-of_ports logs (suc port) = of_ports logs port ++ port_tallies port (slice_index_or logs port [])
+abbrev pub of_ports : Shape → List (List Record) → ℕ → List Tally
+of_ports shape logs zero = []
+of_ports shape logs (suc port) = of_ports shape logs port ++ port_tallies shape port (slice_index_or logs port [])
 
 -- those of the banks, and then those of the ports
 pub record IsCoverage (shape : Shape) (logs : List (List Record)) (coverage : Coverage) : Type 0 where
   pub banks : List Tally
   pub of_banks : AreOfBanks shape logs shape.banks banks
-  pub tallies : coverage.tallies.items ≡ banks ++ of_ports logs shape.ports
+  pub tallies : coverage.tallies.items ≡ banks ++ of_ports shape logs shape.ports

@@ -1,5 +1,8 @@
 -- Kinds of events.
-use Rattle.std.specs.Prelude.{ℕ, Bool, true, false, not, ◌&&◌, ◌==◌, List, count_by, Option, Some, None}
+use Rattle.std.specs.Prelude.{ℕ, Bool, true, false, not, ◌&&◌, ◌==◌, nat_lt, List, count_by, length, filter}
+use Rattle.std.specs.Prelude.{Option, Some, None}
+use Rattle.std.specs.List.{range_with_len}
+use Rattle.lf_rules.specs.OuterTable.{touches}
 use Rattle.lf_rules.specs.Address.{mask_of, place_of}
 use Rattle.lf_rules.specs.declared.mask.Mask.{Mask}
 use Rattle.lf_rules.specs.declared.shape.Shape.{Shape}
@@ -7,7 +10,7 @@ use Rattle.lf_rules.specs.declared.event.Op.TheVariants.{Load, Store}
 use Rattle.lf_rules.specs.declared.event.Event.{Event}
 use Rattle.lf_rules.specs.declared.event.Event.TheVariants.{Issue, Reply, Fence, Merge, Fill1, Evict1}
 use Rattle.lf_rules.specs.declared.event.Event.TheVariants.{SecondHit, SecondPrimary, SecondMerge, SecondStall}
-use Rattle.lf_rules.specs.declared.event.Event.TheVariants.{Fill2, Evict2}
+use Rattle.lf_rules.specs.declared.event.Event.TheVariants.{Fill2, Evict2, Masked, Grant, Clean1, Yield1, Outside}
 
 -- ---- events of a bank, beside those that lf_stats names
 
@@ -72,6 +75,29 @@ abbrev pub dirty_blocks_of : Event → Option ℕ
 dirty_blocks_of (Evict2 block masks bytes) = Some (dirty_blocks masks.items)
 dirty_blocks_of _ = None
 
+-- a line with a dirty byte is written back and stays
+abbrev pub is_dirty_cleaning : Event → Bool
+is_dirty_cleaning (Clean1 block mask bytes) = not (mask.0 == 0)
+is_dirty_cleaning _ = false
+
+-- ---- other events of a cache by itself
+
+abbrev pub is_grant : Event → Bool
+is_grant (Grant block) = true
+is_grant _ = false
+
+abbrev pub is_clean1 : Event → Bool
+is_clean1 (Clean1 block mask bytes) = true
+is_clean1 _ = false
+
+abbrev pub is_yield1 : Event → Bool
+is_yield1 (Yield1 block) = true
+is_yield1 _ = false
+
+abbrev pub is_outside : Event → Bool
+is_outside (Outside block mask bytes) = true
+is_outside _ = false
+
 -- ---- places of misses
 
 -- the port of a merge
@@ -94,6 +120,23 @@ is_load n _ = false
 abbrev pub is_store : ℕ → Event → Bool
 is_store n (Issue Store tag size address bytes) = size == n
 is_store n _ = false
+
+abbrev pub is_masked_load : Event → Bool
+is_masked_load (Masked Load tag block mask bytes) = true
+is_masked_load _ = false
+
+abbrev pub is_masked_store : Event → Bool
+is_masked_store (Masked Store tag block mask bytes) = true
+is_masked_store _ = false
+
+-- how many words of eight bytes have a byte of the mask
+abbrev pub words_of : ℕ → ℕ
+words_of mask = length (filter (touches mask) (range_with_len 0 8))
+
+-- a masked request with bytes of several words
+abbrev pub is_of_words : Event → Bool
+is_of_words (Masked op tag block mask bytes) = nat_lt 1 (words_of mask.0)
+is_of_words _ = false
 
 abbrev pub is_reply : Event → Bool
 is_reply (Reply tag size bytes) = true

@@ -6,13 +6,14 @@ use Rattle.lf_rules.specs.declared.shape.Shape.{Shape}
 use Rattle.lf_rules.specs.declared.shape.OrgShape.{OrgShape}
 use Rattle.lf_rules.specs.declared.shape.OrgShape.TheVariants.{Implicit, Explicit, Inverted}
 use Rattle.lf_rules.specs.Registers.{registers_of}
+use Rattle.lf_rules.specs.Step.{by_below}
 use Rattle.lf_rules.specs.Table.{destinations}
 use Rattle.count_coverage.specs.declared.point.Measure.{Measure}
 use Rattle.count_coverage.specs.declared.point.Measure.TheVariants as measures
 use Rattle.count_coverage.specs.declared.point.BankPoint.{BankPoint}
 use Rattle.count_coverage.specs.declared.point.BankPoint.TheVariants as points
 use Rattle.count_coverage.specs.declared.point.PortPoint.{PortPoint}
-use Rattle.count_coverage.specs.declared.point.PortPoint.TheVariants.{Load, Store, Reply, Fence}
+use Rattle.count_coverage.specs.declared.point.PortPoint.TheVariants.{Load, Store, Reply, Fence, MaskedLoad, MaskedStore, MaskedWords}
 use Rattle.count_coverage.specs.Points.{is_implicit}
 
 -- ---- how much can be outstanding in a bank at once
@@ -118,33 +119,87 @@ can_have shape measures.SecondTargets n =
     nat_le 2 n && nat_le n (most_targets2 shape.level2.organisation (most_asked shape))
 can_have shape measures.SecondField n = is_implicit shape.level2.organisation && nat_lt n shape.factor
 
-abbrev pub can_reach : Shape → BankPoint → Bool
-can_reach shape points.Merge = can_merge shape
-can_reach shape points.Stall = can_stall shape.level1.organisation (requests shape)
-can_reach shape points.StallNoRegister = exceeds_registers shape.level1.organisation (requests shape)
-can_reach shape points.StallNoEntry = exceeds_entries shape.level1.organisation (requests shape)
-can_reach shape points.StallField = exceeds_field shape.level1.organisation (requests shape)
-can_reach shape points.HitUnderMiss = nat_lt 1 (requests shape)
-can_reach shape points.SecondMerge = can_merge2 shape
-can_reach shape points.SecondStall = can_stall2 shape
-can_reach shape points.SecondStallNoRegister = exceeds_registers shape.level2.organisation (most_held shape)
-can_reach shape points.SecondStallNoEntry = exceeds_entries shape.level2.organisation (most_asked shape)
-can_reach shape points.LoadBehindLoad = can_merge shape
-can_reach shape points.LoadBehindStore = can_merge shape
-can_reach shape points.StoreBehindLoad = can_merge shape
-can_reach shape points.StoreBehindStore = can_merge shape
-can_reach shape points.FillOutOfOrder = nat_lt 1 (most_held shape)
-can_reach shape points.EvictionUnderSupply = can_evict_under_supply shape
-can_reach shape points.EvictionOfOtherSet = nat_lt 1 shape.level1.sets && can_evict_under_supply shape
-can_reach shape points.SecondEvictionUnderSupply = nat_lt 1 (most_lines2 shape)
-can_reach shape points.SecondEvictionOfSameSet = nat_lt 1 shape.level2.ways
-can_reach shape points.EvictionBesidePinned = nat_lt 1 shape.level2.ways
-can_reach shape points.EvictionOfLastUnpinned =
+-- of a hierarchy with level two
+abbrev pub can_reach_two : Shape → BankPoint → Bool
+can_reach_two shape points.Merge = can_merge shape
+can_reach_two shape points.Stall = can_stall shape.level1.organisation (requests shape)
+can_reach_two shape points.StallNoRegister = exceeds_registers shape.level1.organisation (requests shape)
+can_reach_two shape points.StallNoEntry = exceeds_entries shape.level1.organisation (requests shape)
+can_reach_two shape points.StallField = exceeds_field shape.level1.organisation (requests shape)
+can_reach_two shape points.HitUnderMiss = nat_lt 1 (requests shape)
+can_reach_two shape points.SecondMerge = can_merge2 shape
+can_reach_two shape points.SecondStall = can_stall2 shape
+can_reach_two shape points.SecondStallNoRegister = exceeds_registers shape.level2.organisation (most_held shape)
+can_reach_two shape points.SecondStallNoEntry = exceeds_entries shape.level2.organisation (most_asked shape)
+can_reach_two shape points.LoadBehindLoad = can_merge shape
+can_reach_two shape points.LoadBehindStore = can_merge shape
+can_reach_two shape points.StoreBehindLoad = can_merge shape
+can_reach_two shape points.StoreBehindStore = can_merge shape
+can_reach_two shape points.FillOutOfOrder = nat_lt 1 (most_held shape)
+can_reach_two shape points.EvictionUnderSupply = can_evict_under_supply shape
+can_reach_two shape points.EvictionOfOtherSet = nat_lt 1 shape.level1.sets && can_evict_under_supply shape
+can_reach_two shape points.SecondEvictionUnderSupply = nat_lt 1 (most_lines2 shape)
+can_reach_two shape points.SecondEvictionOfSameSet = nat_lt 1 shape.level2.ways
+can_reach_two shape points.EvictionBesidePinned = nat_lt 1 shape.level2.ways
+can_reach_two shape points.EvictionOfLastUnpinned =
     nat_lt 1 shape.level2.ways && nat_le shape.level2.ways (most_held shape + 1)
-can_reach shape points.SecondPrimaryBesidePinned = nat_lt 1 (most_held shape)
-can_reach shape points.SecondPrimaryAllPinned = nat_lt shape.level2.ways (most_held shape)
-can_reach shape (points.Numbered measure n) = can_have shape measure n
-can_reach shape _ = true
+can_reach_two shape points.SecondPrimaryBesidePinned = nat_lt 1 (most_held shape)
+can_reach_two shape points.SecondPrimaryAllPinned = nat_lt shape.level2.ways (most_held shape)
+can_reach_two shape points.Grant = false
+can_reach_two shape points.Clean1 = false
+can_reach_two shape points.DirtyCleaning = false
+can_reach_two shape points.Yield1 = false
+can_reach_two shape points.Outside = false
+can_reach_two shape points.OutsideInFlight = false
+can_reach_two shape points.EvictionInFlight = false
+can_reach_two shape (points.Numbered measure n) = can_have shape measure n
+can_reach_two shape _ = true
+
+-- can an event of a cache by itself have the number?
+abbrev pub can_have_alone : Shape → Measure → ℕ → Bool
+can_have_alone shape measures.DirtyBlocks n = false
+can_have_alone shape measures.SecondTargets n = false
+can_have_alone shape measures.SecondField n = false
+can_have_alone shape measure n = can_have shape measure n
+
+-- of a cache by itself
+abbrev pub can_reach_alone : Shape → BankPoint → Bool
+can_reach_alone shape points.SecondHit = false
+can_reach_alone shape points.SecondPrimary = false
+can_reach_alone shape points.SecondMerge = false
+can_reach_alone shape points.SecondStall = false
+can_reach_alone shape points.SecondStallNoRegister = false
+can_reach_alone shape points.SecondStallNoEntry = false
+can_reach_alone shape points.SecondRefetch = false
+can_reach_alone shape points.Fill2 = false
+can_reach_alone shape points.Evict2 = false
+can_reach_alone shape points.EvictionUnderSupply = false
+can_reach_alone shape points.EvictionOfOtherSet = false
+can_reach_alone shape points.SecondEvictionUnderSupply = false
+can_reach_alone shape points.SecondEvictionOfSameSet = false
+can_reach_alone shape points.EvictionBesidePinned = false
+can_reach_alone shape points.EvictionOfLastUnpinned = false
+can_reach_alone shape points.SecondPrimaryBesidePinned = false
+can_reach_alone shape points.SecondPrimaryAllPinned = false
+can_reach_alone shape points.Grant = true
+can_reach_alone shape points.Clean1 = true
+can_reach_alone shape points.DirtyCleaning = true
+can_reach_alone shape points.Yield1 = true
+can_reach_alone shape points.Outside = true
+can_reach_alone shape points.OutsideInFlight = true
+can_reach_alone shape points.EvictionInFlight = true
+can_reach_alone shape (points.Numbered measure n) = can_have_alone shape measure n
+can_reach_alone shape point = can_reach_two shape point
+
+abbrev pub can_reach : Shape → BankPoint → Bool
+can_reach shape point = by_below shape.below (can_reach_two shape point) (can_reach_alone shape point)
+
+-- only a cache by itself has masked requests, and only blocks of several words have one over several
+abbrev pub port_can_reach : Shape → PortPoint → Bool
+port_can_reach shape MaskedLoad = by_below shape.below false true
+port_can_reach shape MaskedStore = by_below shape.below false true
+port_can_reach shape MaskedWords = by_below shape.below false (nat_lt 8 shape.block)
+port_can_reach shape point = true
 
 -- those without a number
 abbrev pub kinds : List BankPoint
@@ -186,6 +241,13 @@ kinds =
     ∷ points.EvictionOfLastUnpinned
     ∷ points.SecondPrimaryBesidePinned
     ∷ points.SecondPrimaryAllPinned
+    ∷ points.Grant
+    ∷ points.Clean1
+    ∷ points.DirtyCleaning
+    ∷ points.Yield1
+    ∷ points.Outside
+    ∷ points.OutsideInFlight
+    ∷ points.EvictionInFlight
     ∷ []
 
 abbrev pub all_measures : List Measure
@@ -209,5 +271,10 @@ abbrev pub bank_points : Shape → List BankPoint
 bank_points shape = filter (can_reach shape) kinds ++ flat_map (points_of shape) all_measures
 
 -- The points of a port.
-abbrev pub port_points : List PortPoint
-port_points = Load 1 ∷ Load 2 ∷ Load 4 ∷ Load 8 ∷ Store 1 ∷ Store 2 ∷ Store 4 ∷ Store 8 ∷ Reply ∷ Fence ∷ []
+abbrev pub port_kinds : List PortPoint
+port_kinds =
+    Load 1 ∷ Load 2 ∷ Load 4 ∷ Load 8 ∷ Store 1 ∷ Store 2 ∷ Store 4 ∷ Store 8 ∷ Reply ∷ Fence ∷ MaskedLoad
+    ∷ MaskedStore ∷ MaskedWords ∷ []
+
+abbrev pub port_points : Shape → List PortPoint
+port_points shape = filter (port_can_reach shape) port_kinds

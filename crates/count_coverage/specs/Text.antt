@@ -7,7 +7,7 @@ use Rattle.count_coverage.specs.declared.point.Measure.TheVariants as measures
 use Rattle.count_coverage.specs.declared.point.BankPoint.{BankPoint}
 use Rattle.count_coverage.specs.declared.point.BankPoint.TheVariants as points
 use Rattle.count_coverage.specs.declared.point.PortPoint.{PortPoint}
-use Rattle.count_coverage.specs.declared.point.PortPoint.TheVariants.{Load, Store, Reply, Fence}
+use Rattle.count_coverage.specs.declared.point.PortPoint.TheVariants.{Load, Store, Reply, Fence, MaskedLoad, MaskedStore, MaskedWords}
 use Rattle.count_coverage.specs.declared.point.Point.{Point}
 use Rattle.count_coverage.specs.declared.point.Point.TheVariants.{Bank, Port}
 use Rattle.count_coverage.specs.declared.tally.Tally.{Tally}
@@ -60,6 +60,13 @@ bank_point_text points.EvictionBesidePinned = codes "evict2_beside_pinned"
 bank_point_text points.EvictionOfLastUnpinned = codes "evict2_last_unpinned"
 bank_point_text points.SecondPrimaryBesidePinned = codes "second_beside_pinned"
 bank_point_text points.SecondPrimaryAllPinned = codes "second_all_pinned"
+bank_point_text points.Grant = codes "grant"
+bank_point_text points.Clean1 = codes "clean1"
+bank_point_text points.DirtyCleaning = codes "clean1_dirty"
+bank_point_text points.Yield1 = codes "yield1"
+bank_point_text points.Outside = codes "outside"
+bank_point_text points.OutsideInFlight = codes "outside_in_flight"
+bank_point_text points.EvictionInFlight = codes "evict1_in_flight"
 bank_point_text (points.Numbered measure n) = measure_text measure ++ codes "_" ++ decimal n
 
 abbrev pub port_point_text : PortPoint → List ℕ
@@ -67,6 +74,9 @@ port_point_text (Load size) = codes "load_" ++ decimal size
 port_point_text (Store size) = codes "store_" ++ decimal size
 port_point_text Reply = codes "reply"
 port_point_text Fence = codes "fence"
+port_point_text MaskedLoad = codes "masked_load"
+port_point_text MaskedStore = codes "masked_store"
+port_point_text MaskedWords = codes "masked_words"
 
 abbrev pub point_text : Point → List ℕ
 point_text (Bank bank point) = codes "bank=" ++ decimal bank ++ codes " " ++ bank_point_text point

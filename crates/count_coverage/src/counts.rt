@@ -18,7 +18,7 @@ use std::alloc::Global;
 use trace_views::RecordView;
 
 /// How many points have no number.
-const KIND_COUNT: usize = 37;
+const KIND_COUNT: usize = 44;
 
 /// The numbers of a measure that are told apart: those below.
 const NUMBERS: usize = 65;
@@ -62,6 +62,13 @@ pub(crate) const KINDS: [BankPoint; KIND_COUNT] = [
     BankPoint::EvictionOfLastUnpinned,
     BankPoint::SecondPrimaryBesidePinned,
     BankPoint::SecondPrimaryAllPinned,
+    BankPoint::Grant,
+    BankPoint::Clean1,
+    BankPoint::DirtyCleaning,
+    BankPoint::Yield1,
+    BankPoint::Outside,
+    BankPoint::OutsideInFlight,
+    BankPoint::EvictionInFlight,
 ];
 
 /// Adds one to the count of each point without a number that the event reaches, where so many registers of level one
@@ -76,8 +83,8 @@ fn add_kinds(
 )
     requires block { shape.now.block ≤ 64 }
     requires factor { 0 < shape.now.factor }
-    requires few { (n : ℕ) → n < 37 → slice_index counts.old n < 2 ^ 29 }
-    ensures { (n : ℕ) → n < 37 → slice_index counts.new n ≡ slice_index counts.old n
+    requires few { (n : ℕ) → n < 44 → slice_index counts.old n < 2 ^ 29 }
+    ensures { (n : ℕ) → n < 44 → slice_index counts.new n ≡ slice_index counts.old n
         + (if reaches shape.now (kind_at n) before after seen item.now.event then 1 else 0) }
 {
     for (i, kind) in KINDS.iter().enumerate() {

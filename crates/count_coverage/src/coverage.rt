@@ -65,16 +65,17 @@ fn cover_banks<L: LogRecords>(
 /// Adds what the ports reached.
 fn cover_ports<L: LogRecords>(
     tallies: &mut Vec<Tally>,
-    ports: u32,
+    shape: &Shape,
     logs: &L,
 ) -> Result<(), NoMemory>
-    requires ports { ports ≤ length (L.lists logs.now) }
-    requires few { ports ≤ 256 }
+    requires ports { shape.now.ports ≤ length (L.lists logs.now) }
+    requires few { shape.now.ports ≤ 256 }
     requires short { All (λ log. length log ≤ 2 ^ 24) (L.lists logs.now) }
-    ensures { OnOk result (tallies.new.items ≡ tallies.old.items ++ of_ports (L.lists logs.now) ports) }
+    ensures { OnOk result (tallies.new.items
+        ≡ tallies.old.items ++ of_ports shape.now (L.lists logs.now) shape.now.ports) }
 {
-    for port in 0..ports {
-        add_port(tallies, logs, port as u8)?;
+    for port in 0..shape.ports {
+        add_port(tallies, shape, logs, port as u8)?;
     }
     Ok(())
 }
@@ -88,6 +89,6 @@ pub fn cover<L: LogRecords>(alloc: Global, shape: &Shape, logs: &L) -> Result<Co
     ensures { IfOk result (IsCoverage shape.now (L.lists logs.now)) }
 {
     let mut tallies = cover_banks(alloc, shape, logs)?;
-    cover_ports(&mut tallies, shape.ports, logs)?;
+    cover_ports(&mut tallies, shape, logs)?;
     Ok(Coverage { tallies })
 }

@@ -71,6 +71,13 @@ fn bank_point_line(point: BankPoint) -> u32
         BankPoint::EvictionOfLastUnpinned => 42,
         BankPoint::SecondPrimaryBesidePinned => 43,
         BankPoint::SecondPrimaryAllPinned => 44,
+        BankPoint::Grant => 49,
+        BankPoint::Clean1 => 50,
+        BankPoint::DirtyCleaning => 51,
+        BankPoint::Yield1 => 52,
+        BankPoint::Outside => 53,
+        BankPoint::OutsideInFlight => 54,
+        BankPoint::EvictionInFlight => 55,
         BankPoint::Numbered(measure, _) => measure_line(measure),
     }
 }
@@ -84,6 +91,9 @@ fn port_point_line(point: PortPoint) -> u32
         PortPoint::Store(_) => 46,
         PortPoint::Reply => 47,
         PortPoint::Fence => 48,
+        PortPoint::MaskedLoad => 56,
+        PortPoint::MaskedStore => 57,
+        PortPoint::MaskedWords => 58,
     }
 }
 

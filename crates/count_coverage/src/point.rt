@@ -101,6 +101,20 @@ pub enum BankPoint {
     SecondPrimaryBesidePinned,
     /// A miss takes a register of level two while each way of the set has a pinned line.
     SecondPrimaryAllPinned,
+    /// Level one gets the right to write a block that it has.
+    Grant,
+    /// Level one writes a line back and keeps it.
+    Clean1,
+    /// It writes a line with a dirty byte back.
+    DirtyCleaning,
+    /// Level one gives up the right to write a block.
+    Yield1,
+    /// The outside writes bytes of a block.
+    Outside,
+    /// The outside writes bytes of a block while a register of level one holds it.
+    OutsideInFlight,
+    /// Level one gives up a line while a register holds its block: an upgrade is in flight.
+    EvictionInFlight,
     /// An event has this number.
     Numbered(Measure, u32),
 }
@@ -116,6 +130,12 @@ pub enum PortPoint {
     Reply,
     /// A fence.
     Fence,
+    /// A load of bytes under a mask is issued.
+    MaskedLoad,
+    /// A store of bytes under a mask is issued.
+    MaskedStore,
+    /// A request for bytes under a mask is issued that has bytes of several words.
+    MaskedWords,
 }
 
 /// A situation, and where it is.
@@ -183,6 +203,13 @@ impl fmt::Display for BankPoint {
             BankPoint::EvictionOfLastUnpinned => write!(f, "evict2_last_unpinned"),
             BankPoint::SecondPrimaryBesidePinned => write!(f, "second_beside_pinned"),
             BankPoint::SecondPrimaryAllPinned => write!(f, "second_all_pinned"),
+            BankPoint::Grant => write!(f, "grant"),
+            BankPoint::Clean1 => write!(f, "clean1"),
+            BankPoint::DirtyCleaning => write!(f, "clean1_dirty"),
+            BankPoint::Yield1 => write!(f, "yield1"),
+            BankPoint::Outside => write!(f, "outside"),
+            BankPoint::OutsideInFlight => write!(f, "outside_in_flight"),
+            BankPoint::EvictionInFlight => write!(f, "evict1_in_flight"),
             BankPoint::Numbered(measure, number) => write!(f, "{measure}_{number}"),
         }
     }
@@ -197,6 +224,9 @@ impl fmt::Display for PortPoint {
             PortPoint::Store(size) => write!(f, "store_{size}"),
             PortPoint::Reply => write!(f, "reply"),
             PortPoint::Fence => write!(f, "fence"),
+            PortPoint::MaskedLoad => write!(f, "masked_load"),
+            PortPoint::MaskedStore => write!(f, "masked_store"),
+            PortPoint::MaskedWords => write!(f, "masked_words"),
         }
     }
 }

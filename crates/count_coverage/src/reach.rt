@@ -4,6 +4,7 @@ ghost use Rattle.std.specs.Prelude.{◌≡◌, ◌<◌, ◌≤◌, length};
 ghost use Rattle.trace_views.specs.Views.{masks_of};
 ghost use Rattle.count_coverage.specs.Kinds.{is_clean, is_dirty_in_part, is_dirty_whole, is_load, is_store};
 ghost use Rattle.count_coverage.specs.Kinds.{dirty_blocks, dirty_blocks_of, merge_port, field_taken2};
+ghost use Rattle.count_coverage.specs.Kinds.{is_dirty_cleaning, is_masked_load, is_masked_store, words_of, is_of_words};
 ghost use Rattle.count_coverage.specs.Points.{is_implicit, is_explicit, number_of, is_seen, reaches, port_reaches};
 
 use crate::point::{BankPoint, Measure, PortPoint};
@@ -130,6 +131,45 @@ fn is_store(bytes: u8, item: &RecordView<'_>) -> bool
     }
 }
 
+/// Whether a line with a dirty byte is written back and stays.
+fn is_dirty_cleaning(item: &RecordView<'_>) -> bool
+    ensures { result ≡ is_dirty_cleaning item.now.event }
+{
+    match item.event() {
+        EventView::Clean1 { mask, .. } => mask.0 != 0,
+        _ => false,
+    }
+}
+
+fn is_masked_load(item: &RecordView<'_>) -> bool
+    ensures { result ≡ is_masked_load item.now.event }
+{
+    matches!(item.event(), EventView::Masked { op: Op::Load, .. })
+}
+
+fn is_masked_store(item: &RecordView<'_>) -> bool
+    ensures { result ≡ is_masked_store item.now.event }
+{
+    matches!(item.event(), EventView::Masked { op: Op::Store, .. })
+}
+
+/// How many words of eight bytes have a byte of the mask.
+fn words_of(mask: Mask) -> usize
+    ensures { result ≡ words_of mask.0 }
+{
+    (0..8u8).filter(|word| mask.touches(*word)).count()
+}
+
+/// Whether a masked request has bytes of several words.
+fn is_of_words(item: &RecordView<'_>) -> bool
+    ensures { result ≡ is_of_words item.now.event }
+{
+    match item.event() {
+        EventView::Masked { mask, .. } => 1 < words_of(*mask),
+        _ => false,
+    }
+}
+
 impl Measure {
     /// The number that the event has, where so many registers of level one are held before it and after it, and the
     /// records before it say so much of it.
@@ -186,6 +226,8 @@ impl BankPoint {
             BankPoint::EvictionOfLastUnpinned => seen.is_last_unpinned(shape.level2.ways),
             BankPoint::SecondPrimaryBesidePinned => seen.is_at_pinned(),
             BankPoint::SecondPrimaryAllPinned => seen.is_at_all_pinned(shape.level2.ways),
+            BankPoint::OutsideInFlight => seen.is_write_in_flight(),
+            BankPoint::EvictionInFlight => seen.is_eviction_in_flight(),
             _ => false,
         }
     }
@@ -221,6 +263,11 @@ impl BankPoint {
             BankPoint::SecondStall => matches!(item.event(), EventView::SecondStall { .. }),
             BankPoint::Fill2 => matches!(item.event(), EventView::Fill2 { .. }),
             BankPoint::Evict2 => matches!(item.event(), EventView::Evict2 { .. }),
+            BankPoint::Grant => matches!(item.event(), EventView::Grant { .. }),
+            BankPoint::Clean1 => matches!(item.event(), EventView::Clean1 { .. }),
+            BankPoint::DirtyCleaning => is_dirty_cleaning(item),
+            BankPoint::Yield1 => matches!(item.event(), EventView::Yield1 { .. }),
+            BankPoint::Outside => matches!(item.event(), EventView::Outside { .. }),
             BankPoint::Numbered(measure, number) => {
                 measure.number_of(shape, before, after, seen, item) == Some(number)
             }
@@ -239,6 +286,9 @@ impl PortPoint {
             PortPoint::Store(size) => is_store(size, item),
             PortPoint::Reply => matches!(item.event(), EventView::Reply { .. }),
             PortPoint::Fence => matches!(item.event(), EventView::Fence),
+            PortPoint::MaskedLoad => is_masked_load(item),
+            PortPoint::MaskedStore => is_masked_store(item),
+            PortPoint::MaskedWords => is_of_words(item),
         }
     }
 }

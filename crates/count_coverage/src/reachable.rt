@@ -5,11 +5,12 @@ ghost use Rattle.lf_rules.specs.InRange.{IsShape};
 ghost use Rattle.count_coverage.specs.Reachable.{requests, most_held, joins, can_merge, most_targets, fields};
 ghost use Rattle.count_coverage.specs.Reachable.{exceeds_registers, exceeds_entries, exceeds_field, can_stall};
 ghost use Rattle.count_coverage.specs.Reachable.{joins2, can_merge2, most_asked, most_targets2, can_stall2};
-ghost use Rattle.count_coverage.specs.Reachable.{most_lines2, can_evict_under_supply, can_have, can_reach};
+ghost use Rattle.count_coverage.specs.Reachable.{most_lines2, can_evict_under_supply, can_have, can_reach_two};
+ghost use Rattle.count_coverage.specs.Reachable.{can_have_alone, can_reach_alone, can_reach, port_can_reach};
 
-use crate::point::{BankPoint, Measure};
+use crate::point::{BankPoint, Measure, PortPoint};
 use crate::reach::is_implicit;
-use lf_rules::{OrgShape, Shape};
+use lf_rules::{Below, OrgShape, Shape};
 
 /// How many requests can be outstanding at once.
 fn requests(shape: &Shape) -> u32
@@ -194,10 +195,10 @@ fn can_have(shape: &Shape, measure: Measure, number: u32) -> bool
     }
 }
 
-/// Whether a bank can reach the point.
-pub(crate) fn can_reach(shape: &Shape, point: BankPoint) -> bool
+/// Whether a bank of a hierarchy with level two can reach the point.
+fn can_reach_two(shape: &Shape, point: BankPoint) -> bool
     requires { IsShape shape.now }
-    ensures { result ≡ can_reach shape.now point }
+    ensures { result ≡ can_reach_two shape.now point }
 {
     match point {
         BankPoint::Merge
@@ -232,7 +233,83 @@ pub(crate) fn can_reach(shape: &Shape, point: BankPoint) -> bool
         }
         BankPoint::SecondPrimaryBesidePinned => 1 < most_held(shape),
         BankPoint::SecondPrimaryAllPinned => shape.level2.ways < most_held(shape),
+        BankPoint::Grant
+        | BankPoint::Clean1
+        | BankPoint::DirtyCleaning
+        | BankPoint::Yield1
+        | BankPoint::Outside
+        | BankPoint::OutsideInFlight
+        | BankPoint::EvictionInFlight => false,
         BankPoint::Numbered(measure, number) => can_have(shape, measure, number),
+        _ => true,
+    }
+}
+
+/// Whether an event of a cache by itself can have the number.
+fn can_have_alone(shape: &Shape, measure: Measure, number: u32) -> bool
+    requires { IsShape shape.now }
+    ensures { result ≡ can_have_alone shape.now measure number }
+{
+    match measure {
+        Measure::DirtyBlocks | Measure::SecondTargets | Measure::SecondField => false,
+        _ => can_have(shape, measure, number),
+    }
+}
+
+/// Whether the bank of a cache by itself can reach the point.
+fn can_reach_alone(shape: &Shape, point: BankPoint) -> bool
+    requires { IsShape shape.now }
+    ensures { result ≡ can_reach_alone shape.now point }
+{
+    match point {
+        BankPoint::SecondHit
+        | BankPoint::SecondPrimary
+        | BankPoint::SecondMerge
+        | BankPoint::SecondStall
+        | BankPoint::SecondStallNoRegister
+        | BankPoint::SecondStallNoEntry
+        | BankPoint::SecondRefetch
+        | BankPoint::Fill2
+        | BankPoint::Evict2
+        | BankPoint::EvictionUnderSupply
+        | BankPoint::EvictionOfOtherSet
+        | BankPoint::SecondEvictionUnderSupply
+        | BankPoint::SecondEvictionOfSameSet
+        | BankPoint::EvictionBesidePinned
+        | BankPoint::EvictionOfLastUnpinned
+        | BankPoint::SecondPrimaryBesidePinned
+        | BankPoint::SecondPrimaryAllPinned => false,
+        BankPoint::Grant
+        | BankPoint::Clean1
+        | BankPoint::DirtyCleaning
+        | BankPoint::Yield1
+        | BankPoint::Outside
+        | BankPoint::OutsideInFlight
+        | BankPoint::EvictionInFlight => true,
+        BankPoint::Numbered(measure, number) => can_have_alone(shape, measure, number),
+        _ => can_reach_two(shape, point),
+    }
+}
+
+/// Whether a bank can reach the point.
+pub(crate) fn can_reach(shape: &Shape, point: BankPoint) -> bool
+    requires { IsShape shape.now }
+    ensures { result ≡ can_reach shape.now point }
+{
+    match shape.below {
+        Below::LevelTwo => can_reach_two(shape, point),
+        Below::Outside => can_reach_alone(shape, point),
+    }
+}
+
+/// Whether a port can reach the point: only a cache by itself has masked requests, and only a
+/// block of several words has one with bytes of several.
+pub(crate) fn port_can_reach(shape: &Shape, point: PortPoint) -> bool
+    ensures { result ≡ port_can_reach shape.now point }
+{
+    match point {
+        PortPoint::MaskedLoad | PortPoint::MaskedStore => matches!(shape.below, Below::Outside),
+        PortPoint::MaskedWords => matches!(shape.below, Below::Outside) && 8 < shape.block,
         _ => true,
     }
 }

@@ -3,10 +3,10 @@
 ghost use Rattle.std.specs.Prelude.{◌≡◌, ◌+◌, ◌*◌, ◌<◌, ℕ, None, length, IfOk, slice_index_or};
 ghost use Rattle.lf_rules.specs.Address.{set2_of};
 ghost use Rattle.lf_rules.specs.InRange.{IsShape};
-ghost use Rattle.count_coverage.specs.Standing.{latest_after, request_of};
+ghost use Rattle.count_coverage.specs.Standing.{latest_after, masked_request, request_of, word_from};
 ghost use Rattle.count_coverage.specs.Kept.{latest_in};
 
-use lf_rules::{NoMemory, Op, Shape, wide_quotient, wide_remainder};
+use lf_rules::{Mask, NoMemory, Op, Shape, quotient, wide_quotient, wide_remainder};
 use std::alloc::Global;
 use trace_views::{EventView, RecordView};
 
@@ -52,6 +52,30 @@ impl Request {
             set2: set2_of(shape, second),
         }
     }
+
+    /// The request of a kind for the bytes of a block under a mask: its field is that of its first byte.
+    fn masked(shape: &Shape, op: Op, block: u32, mask: Mask) -> Self
+        requires { IsShape shape.now }
+        ensures { result ≡ masked_request shape.now op block mask.0 }
+    {
+        let second = u64::from(quotient(block, shape.factor));
+        Request {
+            op,
+            block: u64::from(block),
+            field: first_word(mask),
+            second,
+            set2: set2_of(shape, second),
+        }
+    }
+}
+
+/// The first word of eight bytes with a byte of the mask, and the last of the eight where it has none.
+fn first_word(mask: Mask) -> u32
+    ensures { result ≡ word_from mask.0 0 7 }
+{
+    (0..7u8)
+        .find(|word| mask.touches(*word))
+        .map_or(7, u32::from)
 }
 
 fn place_of(port: u8, tag: u8) -> usize
@@ -101,14 +125,22 @@ impl Requests {
         ensures latest { (port tag : ℕ) → port < 256 → tag < 256
             → latest_in self.new port tag ≡ latest_after shape.now item.now port tag (latest_in self.old port tag) }
     {
-        if let EventView::Issue {
-            op,
-            tag,
-            address,
-            ..
-        } = item.event()
-        {
-            self.0[place_of(item.log(), *tag)] = Some(Request::of(shape, *op, *address));
-        }
+        let (tag, request) = match item.event() {
+            EventView::Issue {
+                op,
+                tag,
+                address,
+                ..
+            } => (*tag, Request::of(shape, *op, *address)),
+            EventView::Masked {
+                op,
+                tag,
+                block,
+                mask,
+                ..
+            } => (*tag, Request::masked(shape, *op, *block, *mask)),
+            _ => return,
+        };
+        self.0[place_of(item.log(), tag)] = Some(request);
     }
 }

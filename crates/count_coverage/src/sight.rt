@@ -7,6 +7,7 @@ ghost use Rattle.count_coverage.specs.Sights.{lacks_register, lacks_place, lacks
 ghost use Rattle.count_coverage.specs.Sights.{is_refetch, is_refetch2, overtakes, is_over_stores};
 ghost use Rattle.count_coverage.specs.Sights.{targets_made, field_taken, targets_made2};
 ghost use Rattle.count_coverage.specs.Sights.{is_under_supply, is_of_other_set, is_under_supply2, is_of_same_set2};
+ghost use Rattle.count_coverage.specs.Sights.{is_write_in_flight, is_eviction_in_flight};
 ghost use Rattle.count_coverage.specs.Sights.{is_beside_pinned, is_last_unpinned, is_at_pinned, is_at_all_pinned};
 
 use lf_rules::Op;
@@ -51,10 +52,16 @@ pub(crate) enum Sight {
     SecondStalled {
         held: bool,
     },
-    /// Level one gives up a line: while a block is supplied or not, and while one of the line's set is or not.
+    /// Level one gives up a line: while a block is supplied or not, while one of the line's set is or not, and while a
+    /// request waits for its block or none does.
     Evicted {
         supplied: bool,
         same_set: bool,
+        waited: bool,
+    },
+    /// The outside writes bytes of a block: while a request waits for it or none does.
+    Written {
+        waited: bool,
     },
     /// Level two gives up a line: the same, and how many lines of its set are pinned.
     SecondEvicted {
@@ -218,8 +225,23 @@ impl Sight {
             Sight::Evicted {
                 supplied: true,
                 same_set: false,
+                ..
             }
         )
+    }
+
+    /// The outside writes bytes of a block that a request waits for.
+    pub fn is_write_in_flight(self) -> bool
+        ensures { result ≡ is_write_in_flight self }
+    {
+        matches!(self, Sight::Written { waited: true })
+    }
+
+    /// Level one gives up a line while a request waits for its block.
+    pub fn is_eviction_in_flight(self) -> bool
+        ensures { result ≡ is_eviction_in_flight self }
+    {
+        matches!(self, Sight::Evicted { waited: true, .. })
     }
 
     /// Level two gives up a line while a block is supplied.

@@ -257,7 +257,11 @@ impl Kept {
             EventView::Evict1 { block, .. } => evicted(
                 self.supplied.as_slice(),
                 set1_of(shape, *block),
+                waits_for(waiting, u64::from(*block)),
             ),
+            EventView::Outside { block, .. } => Sight::Written {
+                waited: waits_for(waiting, u64::from(*block)),
+            },
             EventView::SecondPrimary { block, .. } => self.second_taken(shape, *block),
             EventView::SecondMerge { block, .. } => {
                 second_joined(waiting2, quotient(*block, shape.factor))
@@ -288,7 +292,9 @@ impl Kept {
                     self.waiting.push(request)?;
                 }
             }
-            EventView::Fill1 { block, .. } => leave(&mut self.waiting, u64::from(*block)),
+            EventView::Fill1 { block, .. } | EventView::Grant { block } => {
+                leave(&mut self.waiting, u64::from(*block))
+            }
             _ => {}
         }
         Ok(())
@@ -327,10 +333,13 @@ impl Kept {
         ensures written { OnOk result ((block : ℕ)
             → is_in self.new.written block ≡ (writes_back item.now.event block || is_in self.old.written block)) }
     {
-        if let EventView::Evict1 { block, mask, .. } = item.event() {
-            if mask.0 != 0 {
-                let _ = self.written.insert(u64::from(*block))?;
+        match item.event() {
+            EventView::Evict1 { block, mask, .. } | EventView::Clean1 { block, mask, .. } => {
+                if mask.0 != 0 {
+                    let _ = self.written.insert(u64::from(*block))?;
+                }
             }
+            _ => {}
         }
         Ok(())
     }

@@ -70,13 +70,14 @@ pub(crate) fn is_some(supplied: &[Asked]) -> bool
     }
 }
 
-/// What is seen of a line of this set that level one gives up.
-pub(crate) fn evicted(supplied: &[Asked], set: u32) -> Sight
-    ensures { result ≡ evicted supplied.now set }
+/// What is seen of a line of this set that level one gives up, where a request waits for its block or none does.
+pub(crate) fn evicted(supplied: &[Asked], set: u32, waited: bool) -> Sight
+    ensures { result ≡ evicted supplied.now set waited }
 {
     Sight::Evicted {
         supplied: is_some(supplied),
         same_set: is_for_set1(supplied, set),
+        waited,
     }
 }
 

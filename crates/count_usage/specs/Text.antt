@@ -5,6 +5,7 @@ use Rattle.lf_rules.specs.declared.shape.OrgShape.{OrgShape}
 use Rattle.lf_rules.specs.declared.shape.OrgShape.TheVariants.{Implicit, Explicit, Inverted}
 use Rattle.lf_rules.specs.declared.shape.Level.{Level}
 use Rattle.lf_rules.specs.declared.shape.Shape.{Shape}
+use Rattle.lf_rules.specs.Step.{by_below}
 use Rattle.lf_stats.specs.Text.{lines_from}
 use Rattle.count_usage.specs.declared.level.LevelUse.{LevelUse}
 use Rattle.count_usage.specs.declared.usage.BankUse.{BankUse}
@@ -38,7 +39,7 @@ level_line bank number used level fields =
 abbrev pub bank_lines : Shape → ℕ → BankUse → List ℕ
 bank_lines shape bank used =
     level_line bank 1 used.level1 shape.level1 (shape.block / 8)
-    ++ level_line bank 2 used.level2 shape.level2 shape.factor
+    ++ by_below shape.below (level_line bank 2 used.level2 shape.level2 shape.factor) []
 
 -- how many tags there are up to the highest
 abbrev pub tags_used : Option ℕ → ℕ
@@ -49,7 +50,7 @@ abbrev pub port_line : ℕ → ℕ → Option ℕ → List ℕ
 port_line of port highest = codes "port " ++ decimal port ++ codes ": tags " ++ share_text (tags_used highest) of
     ++ 10 ∷ []
 
--- two lines for each bank, then one for each port
+-- a line for each level of each bank, then one for each port
 abbrev pub usage_text : Shape → Usage → List ℕ
 usage_text shape usage =
     codes "used at once, at most:" ++ 10 ∷ []

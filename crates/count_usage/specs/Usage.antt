@@ -2,16 +2,16 @@
 use Rattle.std.specs.Prelude.{◌≡◌, ℕ, ◌+◌, ◌-◌, ◌<◌, max, ◌==◌, if◌then◌else◌, List, [], ◌∷◌, fold, length, Option}
 use Rattle.std.specs.Prelude.{Some, None, unwrap_or, slice_index_or}
 use Rattle.lf_rules.specs.declared.event.Event.{Event}
-use Rattle.lf_rules.specs.declared.event.Event.TheVariants.{Issue}
+use Rattle.lf_rules.specs.declared.event.Event.TheVariants.{Issue, Masked}
 use Rattle.lf_rules.specs.declared.event.Record.{Record}
 use Rattle.lf_rules.specs.declared.shape.Shape.{Shape}
 use Rattle.lf_rules.specs.Numbers.{IsNumbered}
 use Rattle.count_usage.specs.declared.change.Change.{Change}
-use Rattle.count_usage.specs.declared.change.Change.TheVariants.{Taken, Joined, Filled, Evicted, Nothing}
+use Rattle.count_usage.specs.declared.change.Change.TheVariants.{Taken, Joined, Filled, Evicted, Freed, Nothing}
 use Rattle.count_usage.specs.declared.level.LevelUse.{LevelUse}
 use Rattle.count_usage.specs.declared.usage.BankUse.{BankUse}
 use Rattle.count_usage.specs.declared.usage.Usage.{Usage}
-use Rattle.count_usage.specs.Changes.{change1, change2, latest_first}
+use Rattle.count_usage.specs.Changes.{changes1, backwards, change2, latest_first}
 
 -- ---- what a level holds after some changes, the latest first
 
@@ -22,11 +22,12 @@ lines set (Filled s ∷ before) = if s == set then lines set before + 1 else lin
 lines set (Evicted s ∷ before) = if s == set then lines set before - 1 else lines set before
 lines set (_ ∷ before) = lines set before
 
--- the registers that primary misses took: the fill of its block frees one
+-- the registers that primary misses took: the fill or the grant of its block frees one
 abbrev pub held : List Change → ℕ
 held [] = 0
 held (Taken r ∷ before) = held before + 1
 held (Filled s ∷ before) = held before - 1
+held (Freed ∷ before) = held before - 1
 held (_ ∷ before) = held before
 
 -- the misses that joined in a register since it was taken, with the one that took it
@@ -49,6 +50,7 @@ uses (Taken r ∷ before) = record { ways = 0; registers = held before + 1; targ
 uses (Joined r ∷ before) = record { ways = 0; registers = 0; targets = targets r before + 1 }
 uses (Filled s ∷ before) = record { ways = lines s before + 1; registers = 0; targets = 0 }
 uses (Evicted s ∷ before) = unused
+uses (Freed ∷ before) = unused
 uses (Nothing ∷ before) = unused
 
 abbrev pub greater : LevelUse → LevelUse → LevelUse
@@ -66,13 +68,14 @@ level_use (change ∷ before) = greater (level_use before) (uses (change ∷ bef
 -- of a bank's records, in the order of their numbers
 abbrev pub bank_use : Shape → List Record → BankUse
 bank_use shape rs = record {
-  level1 = level_use (latest_first (change1 shape) rs);
+  level1 = level_use (changes1 shape (backwards rs));
   level2 = level_use (latest_first (change2 shape) rs);
 }
 
 -- the higher of a tag and that of a request
 abbrev pub higher : Option ℕ → Event → Option ℕ
 higher tag (Issue op issued size address bytes) = Some (max (unwrap_or tag 0) issued)
+higher tag (Masked op issued block mask bytes) = Some (max (unwrap_or tag 0) issued)
 higher tag _ = tag
 
 -- the highest tag of the requests of a port's log

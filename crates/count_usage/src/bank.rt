@@ -5,7 +5,8 @@ ghost use Rattle.lf_rules.specs.InRange.{IsShape};
 ghost use Rattle.lf_logs.specs.Places.{record_at, records_at};
 ghost use Rattle.count_usage.specs.Usage.{bank_use};
 
-use crate::change::{change1, change2};
+use crate::change::change2;
+use crate::lines::Lines;
 use crate::tally::Tally;
 use crate::usage::BankUse;
 use lf_logs::{LogRecords, Place};
@@ -27,11 +28,12 @@ pub(crate) fn bank_use<L: LogRecords>(
 {
     let mut one = Tally::new(alloc);
     let mut two = Tally::new(alloc);
+    let mut lines = Lines::new(alloc);
     let mut room = RecordView::blank();
     for place in places {
         logs.lend(*place, &mut room);
         let event = room.event();
-        one.note(change1(shape, event))?;
+        one.note(lines.change1(shape, event)?)?;
         two.note(change2(shape, event))?;
     }
     Ok(BankUse {

@@ -21,6 +21,8 @@ pub enum Change {
     Filled(u32),
     /// A line of this set goes.
     Evicted(u32),
+    /// The register that waited for a block is free, and no line comes: level one had one.
+    Freed,
     /// Nothing changes in the level.
     Nothing,
 }
@@ -41,7 +43,7 @@ fn set2_of(shape: &Shape, second: u32) -> u32
     Two::set_of(shape.banks, shape.factor, shape.level2.sets, second)
 }
 
-/// What the event changes in level one.
+/// What the event changes in level one of a hierarchy with level two.
 pub(crate) fn change1(shape: &Shape, event: &EventView<'_>) -> Change
     requires { IsShape shape.now }
     ensures { result ≡ change1 shape.now (event_of event.now) }

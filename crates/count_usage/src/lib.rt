@@ -8,6 +8,7 @@
 mod bank;
 mod change;
 mod level;
+mod lines;
 mod port;
 mod tally;
 mod text;

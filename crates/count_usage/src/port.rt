@@ -12,7 +12,9 @@ fn higher(tag: Option<u8>, event: &EventView<'_>) -> Option<u8>
     ensures { result ≡ higher tag (event_of event.now) }
 {
     match event {
-        EventView::Issue { tag: issued, .. } => Some(tag.unwrap_or(0).max(*issued)),
+        EventView::Issue { tag: issued, .. } | EventView::Masked { tag: issued, .. } => {
+            Some(tag.unwrap_or(0).max(*issued))
+        }
         _ => tag,
     }
 }

@@ -95,6 +95,7 @@ impl Tally {
                 let left = self.lines.of(set).saturating_sub(1);
                 self.lines.set(set, left)?;
             }
+            Change::Freed => self.held = self.held.saturating_sub(1),
             Change::Nothing => {}
         }
         Ok(used)

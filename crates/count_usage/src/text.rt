@@ -7,7 +7,7 @@ ghost use Rattle.count_usage.specs.Text.{usage_text};
 
 use crate::level::LevelUse;
 use crate::usage::{BankUse, Usage};
-use lf_rules::{Level, OrgShape, Shape};
+use lf_rules::{Below, Level, OrgShape, Shape};
 use std::fmt;
 
 /// So many of so many are used.
@@ -94,7 +94,7 @@ impl fmt::Display for LevelText<'_> {
     }
 }
 
-/// The two lines of a bank.
+/// The lines of a bank: one for each level.
 #[derive(Clone, Copy)]
 struct BankText<'a> {
     bank: usize,
@@ -121,7 +121,10 @@ impl fmt::Display for BankText<'_> {
             level: &shape.level2,
             fields: shape.factor,
         };
-        write!(f, "{one}{two}")
+        match shape.below {
+            Below::LevelTwo => write!(f, "{one}{two}"),
+            Below::Outside => write!(f, "{one}"),
+        }
     }
 }
 
@@ -202,7 +205,8 @@ impl fmt::Display for PortTexts<'_> {
     }
 }
 
-/// What a trace uses at most, of what its hierarchy has: two lines for each bank, then one for each port.
+/// What a trace uses at most, of what its hierarchy has: a line for each level of each bank, then one for each
+/// port.
 #[derive(Clone, Copy)]
 pub struct UsageText<'a> {
     pub usage: &'a Usage,

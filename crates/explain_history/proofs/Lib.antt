@@ -5,5 +5,5 @@ mod Records
 mod Counted
 mod Waited
 pub mod RecordsAt
-mod LastAddress
+mod LastRequest
 pub mod NearLemmas

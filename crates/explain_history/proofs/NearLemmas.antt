@@ -16,7 +16,7 @@ use Rattle.explain_history.specs.History.{last, is_about, about}
 use Rattle.explain_history.specs.Near.{EndsWith, about_one, kept}
 use Rattle.explain_history.specs.Touching.{Touch, asked_by, asked, touched, record_at, and_then, all_before, touch_at}
 use Rattle.explain_history.specs.Touching.{touches}
-use Rattle.explain_history.proofs.LastAddress.{later}
+use Rattle.explain_history.proofs.LastRequest.{later}
 
 -- ---- records before
 
@@ -55,6 +55,8 @@ by_later : (shape : Shape) (port tag log : ℕ) (event : Event) (near far : Opti
     → asked_by shape port tag log event (later near far) ≡ later (asked_by shape port tag log event near) far
 by_later shape port tag log (events.Issue op t size address bytes) near far =
     if_later_than ((log == port) && (t == tag)) (second_of shape (block_of shape address)) near far
+by_later shape port tag log (events.Masked op t block mask bytes) near far =
+    if_later_than ((log == port) && (t == tag)) (second_of shape block) near far
 by_later shape port tag log _ near far = refl
 
 -- the latest request of all is that of the later records, where they have one

@@ -4,7 +4,7 @@ use Rattle.lf_rules.specs.declared.event.Event.{Event}
 use Rattle.lf_rules.specs.declared.event.Event.TheVariants.{Issue, Reply, Fence, Hit, Primary, Merge, Stall, Fill1}
 use Rattle.lf_rules.specs.declared.event.Event.TheVariants.{Evict1}
 use Rattle.lf_rules.specs.declared.event.Event.TheVariants.{SecondHit, SecondPrimary, SecondMerge, SecondStall, Fill2}
-use Rattle.lf_rules.specs.declared.event.Event.TheVariants.{Evict2}
+use Rattle.lf_rules.specs.declared.event.Event.TheVariants.{Evict2, Masked, Grant, Clean1, Yield1, Outside}
 use Rattle.lf_rules.specs.declared.event.Record.{Record}
 use Rattle.lf_rules.specs.declared.shape.Shape.{Shape}
 use Rattle.lf_rules.specs.Address.{block_of, second_of}
@@ -13,6 +13,8 @@ use Rattle.lf_rules.specs.Address.{block_of, second_of}
 abbrev pub asked_by : Shape → ℕ → ℕ → ℕ → Event → Option ℕ → Option ℕ
 asked_by shape port tag log (Issue op t size address bytes) earlier =
     if (log == port) && (t == tag) then Some (second_of shape (block_of shape address)) else earlier
+asked_by shape port tag log (Masked op t block mask bytes) earlier =
+    if (log == port) && (t == tag) then Some (second_of shape block) else earlier
 asked_by shape port tag log _ earlier = earlier
 
 -- the one that the latest request of the port with this tag asks for, among records that stand latest first
@@ -37,6 +39,11 @@ touched shape before log (SecondStall block) = Some (second_of shape block)
 touched shape before log (Fill2 second bytes) = Some second
 touched shape before log (Evict2 second masks bytes) = Some second
 touched shape before log Fence = None
+touched shape before log (Masked op tag block mask bytes) = Some (second_of shape block)
+touched shape before log (Grant block) = Some (second_of shape block)
+touched shape before log (Clean1 block mask bytes) = Some (second_of shape block)
+touched shape before log (Yield1 block) = Some (second_of shape block)
+touched shape before log (Outside block mask bytes) = Some (second_of shape block)
 
 -- ---- the records at some places, one after another
 

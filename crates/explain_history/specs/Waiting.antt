@@ -1,12 +1,13 @@
 -- The request of a port that waits for its reply.
 use Rattle.std.specs.Prelude.{ℕ, suc, ◌==◌, List, [], ◌∷◌, Option, Some, None, if◌then◌else◌}
 use Rattle.lf_rules.specs.declared.event.Event.{Event}
-use Rattle.lf_rules.specs.declared.event.Event.TheVariants.{Issue, Reply}
+use Rattle.lf_rules.specs.declared.event.Event.TheVariants.{Issue, Reply, Masked}
 use Rattle.lf_rules.specs.declared.event.Record.{Record}
 
 -- With a request at the place `at` its tag waits, and with a reply it does not.
 abbrev pub waiting_after : ℕ → ℕ → Option ℕ → Event → Option ℕ
 waiting_after tag at before (Issue op t size address bytes) = if t == tag then Some at else before
+waiting_after tag at before (Masked op t block mask bytes) = if t == tag then Some at else before
 waiting_after tag at before (Reply t size bytes) = if t == tag then None else before
 waiting_after tag at before _ = before
 

@@ -20,5 +20,5 @@ pub use lf_codec::room;
 pub use lf_rules::NoMemory;
 pub use packing::packed;
 pub use places::record_at;
-pub use request::last_address;
+pub use request::{Asked, block_asked, last_request};
 pub use waiting::waiting_request;

@@ -3,9 +3,11 @@
 ghost use Rattle.std.specs.Prelude.{◌≡◌, ◌+◌, ◌*◌, ◌<◌, ◌/◌, None, List, replicate, IfOk};
 ghost use Rattle.lf_rules.specs.declared.event.Record.{Record};
 ghost use Rattle.explain_history.specs.Asked.{block_named};
+ghost use Rattle.explain_history.specs.Request.{block_asked};
 ghost use Rattle.explain_history.specs.Touching.{touched};
 ghost use Rattle.lf_rules.specs.Address.{block_of, second_of};
 
+use crate::request::{Asked, block_asked};
 use lf_rules::{Event, NoMemory, Record, Shape};
 use std::alloc::Global;
 
@@ -32,7 +34,7 @@ fn index_of(port: u8, tag: u8) -> usize
 }
 
 /// The second-level block of an address.
-pub(crate) fn second_at(shape: &Shape, address: u64) -> u64
+fn second_at(shape: &Shape, address: u64) -> u64
     requires block { 0 < shape.now.block }
     requires factor { 0 < shape.now.factor }
     ensures { result ≡ second_of shape.now (block_of shape.now address) }
@@ -46,6 +48,15 @@ fn second_of(shape: &Shape, block: u32) -> u64
     ensures { result ≡ second_of shape.now block }
 {
     u64::from(block / shape.factor)
+}
+
+/// The second-level block of what a request asks for.
+pub(crate) fn second_asked(shape: &Shape, asked: Asked) -> u64
+    requires block { 0 < shape.now.block }
+    requires factor { 0 < shape.now.factor }
+    ensures { result ≡ second_of shape.now (block_asked shape.now asked) }
+{
+    block_asked(shape, asked) / u64::from(shape.factor)
 }
 
 /// How a record names the second-level block that it touches.
@@ -68,6 +79,11 @@ pub(crate) fn name_of(shape: &Shape, item: &Record) -> Named
 {
     match &item.event {
         Event::Issue { address, .. } => Named::Second(second_at(shape, *address)),
+        Event::Masked { block, .. }
+        | Event::Grant { block }
+        | Event::Clean1 { block, .. }
+        | Event::Yield1 { block }
+        | Event::Outside { block, .. } => Named::Second(second_of(shape, *block)),
         Event::Reply { tag, .. } => Named::Request {
             port: item.log,
             tag: *tag,
@@ -139,8 +155,11 @@ impl Requests {
         ensures { (before : List Record) → IsLatest shape.now before self.old →
             IsLatest shape.now (item.now ∷ before) self.new }
     {
-        if let Event::Issue { tag, address, .. } = &item.event {
-            self.seconds[index_of(item.log, *tag)] = Some(second_at(shape, *address));
-        }
+        let (tag, second) = match &item.event {
+            Event::Issue { tag, address, .. } => (*tag, second_at(shape, *address)),
+            Event::Masked { tag, block, .. } => (*tag, second_of(shape, *block)),
+            _ => return,
+        };
+        self.seconds[index_of(item.log, tag)] = Some(second);
     }
 }

@@ -6,8 +6,8 @@ ghost use Rattle.explain_history.specs.Near.{EndsWith, about_one, kept};
 ghost use Rattle.explain_history.specs.Touching.{record_at, all_before, touches};
 
 use crate::places::record_at;
-use crate::request::last_address;
-use crate::requests::{Named, Requests, name_of, second_at};
+use crate::request::last_request;
+use crate::requests::{Named, Requests, name_of, second_asked};
 use lf_codec::{Packed, room};
 use lf_rules::{NoMemory, Shape};
 use std::alloc::Global;
@@ -30,8 +30,8 @@ pub(crate) fn touched_at(
         Named::Nothing => None,
         Named::Second(second) => Some(second),
         Named::Request { port, tag } => {
-            let address = last_address(records, before, port, tag)?;
-            Some(second_at(shape, address))
+            let asked = last_request(records, before, port, tag)?;
+            Some(second_asked(shape, asked))
         }
     }
 }

@@ -13,7 +13,7 @@ fn waiting_after(tag: u8, at: usize, before: Option<usize>, event: &Event) -> Op
         IfSome result (λ place. place < end) }
 {
     match event {
-        Event::Issue { tag: issued, .. } if *issued == tag => Some(at),
+        Event::Issue { tag: issued, .. } | Event::Masked { tag: issued, .. } if *issued == tag => Some(at),
         Event::Reply { tag: replied, .. } if *replied == tag => None,
         _ => before,
     }

@@ -10,9 +10,9 @@ use explain_history::{record_at, room};
 use explain_lines::Listing;
 use explain_origins::Origins;
 use explain_replay::Broken;
-use explain_rule::{Explanation, Field, Limit, Taken, sentence_of};
+use explain_rule::{Explanation, Field, Limit, Taken, sentence_at};
 use lf_codec::Packed;
-use lf_rules::{NoMemory, Rule};
+use lf_rules::NoMemory;
 use serde_json::{Value, json};
 use std::alloc::Global;
 
@@ -50,12 +50,15 @@ fn set_place(
     object.set("event", Value::from(count_before(records, log, place)))
 }
 
-/// The rule, and what it asks.
-fn set_rule(object: &mut Object, rule: Rule) -> Result<(), NoMemory> {
+/// The rule, and what it asks of the record that breaks it.
+fn set_rule(object: &mut Object, listing: &Listing<'_>, why: &Explanation) -> Result<(), NoMemory> {
+    let rule = why.rule;
     let name = format!(in object.alloc; "{rule}")?;
     object.set_text("kind", "rule")?;
     object.set_text("rule", name.as_str())?;
-    object.set_text("asks", sentence_of(rule))
+    let mut room = room();
+    let item = record_at(listing.records, why.history.place, &mut room);
+    object.set_text("asks", sentence_at(why.below, rule, item))
 }
 
 /// So many of what this name says.
@@ -171,7 +174,7 @@ fn set_broken(
     let Some(broken) = &why.broken else {
         return object.set("blocks", Value::Array(Vec::new(alloc)));
     };
-    object.set("blocks", blocks_json(alloc, &broken.blocks)?)?;
+    object.set("blocks", blocks_json(alloc, why.below, &broken.blocks)?)?;
     let mut room = room();
     match record_at(listing.records, why.history.place, &mut room) {
         Some(item) => {
@@ -198,7 +201,7 @@ pub(crate) fn breach_json(
     why: &Explanation,
 ) -> Result<Value, NoMemory> {
     let mut object = Object::new(alloc);
-    set_rule(&mut object, why.rule)?;
+    set_rule(&mut object, listing, why)?;
     set_limits(&mut object, why)?;
     if let Some(place) = why.history.place {
         set_place(&mut object, listing, place, &why.broken)?;

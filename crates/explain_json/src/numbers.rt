@@ -19,7 +19,7 @@ fn by_numbers(alloc: Global, item: &Record) -> Result<String, NoMemory> {
 fn by_log(alloc: Global, item: &Record) -> Result<String, NoMemory> {
     let Record { log, bank, .. } = item;
     match &item.event {
-        Event::Issue { .. } | Event::Reply { .. } | Event::Fence => {
+        Event::Issue { .. } | Event::Reply { .. } | Event::Fence | Event::Masked { .. } => {
             Ok(format!(in alloc; "the log of port {log}")?)
         }
         _ => Ok(format!(in alloc; "the log of bank {bank}")?),

@@ -14,7 +14,9 @@ fn set_head(object: &mut Object, item: &Record) -> Result<(), NoMemory> {
     object.set("log", Value::from(item.log))?;
     match &item.event {
         Event::Fence => return object.set("port", Value::from(item.log)),
-        Event::Issue { .. } | Event::Reply { .. } => object.set("port", Value::from(item.log))?,
+        Event::Issue { .. } | Event::Reply { .. } | Event::Masked { .. } => {
+            object.set("port", Value::from(item.log))?
+        }
         _ => {}
     }
     object.set("bank", Value::from(item.bank))?;
@@ -64,6 +66,10 @@ fn set_fields(object: &mut Object, event: &Event) -> Result<(), NoMemory> {
             set_request(object, *port, *tag)?;
             object.set("register", Value::from(*register))
         }
+        Event::Masked { tag, .. } => {
+            object.set("tag", Value::from(*tag))?;
+            set_block(object, event)
+        }
         Event::Fence => Ok(()),
         _ => set_block(object, event),
     }
@@ -75,12 +81,17 @@ fn set_block(object: &mut Object, event: &Event) -> Result<(), NoMemory> {
         Event::Fill1 { block, .. }
         | Event::SecondHit { block }
         | Event::SecondStall { block }
-        | Event::Fill2 { block, .. } => object.set("block", Value::from(*block)),
+        | Event::Fill2 { block, .. }
+        | Event::Grant { block }
+        | Event::Yield1 { block } => object.set("block", Value::from(*block)),
         Event::SecondPrimary { block, register } | Event::SecondMerge { block, register } => {
             object.set("block", Value::from(*block))?;
             object.set("register", Value::from(*register))
         }
-        Event::Evict1 { block, mask, .. } => {
+        Event::Evict1 { block, mask, .. }
+        | Event::Masked { block, mask, .. }
+        | Event::Clean1 { block, mask, .. }
+        | Event::Outside { block, mask, .. } => {
             let masks = masks_json(object.alloc, &[*mask])?;
             set_masks(object, *block, masks)
         }

@@ -2,7 +2,7 @@
 
 use crate::object::{Object, digits, hexadecimal, masks_json};
 use explain_replay::{BlockState, NamedBlock};
-use lf_rules::{Mask, Masks, NoMemory};
+use lf_rules::{Below, Mask, Masks, NoMemory};
 use serde_json::{Value, json};
 use std::alloc::Global;
 
@@ -64,11 +64,44 @@ fn block_json(alloc: Global, named: &NamedBlock) -> Result<Value, NoMemory> {
     Ok(object.done())
 }
 
+/// A line of a cache by itself, and whether the outside may hold it too, and null where there is none.
+fn alone_line_json(alloc: Global, line: Option<Mask>, shared: bool) -> Result<Value, NoMemory> {
+    match line {
+        Some(mask) => {
+            let dirty = masks_json(alloc, &[mask])?;
+            Ok(json!(in alloc; {"dirty": dirty, "shared": shared})?)
+        }
+        None => Ok(Value::Null),
+    }
+}
+
+/// A block of a cache by itself, and what the bank has of it.
+fn alone_json(alloc: Global, named: &NamedBlock) -> Result<Value, NoMemory> {
+    let state = &named.state;
+    let line = alone_line_json(alloc, state.line1, state.shared)?;
+    let register = register1_json(alloc, state.held, state.stores)?;
+    let value = json!(in alloc; {
+        "block": named.block,
+        "address": hexadecimal(alloc, named.address)?,
+        "level_one_line": line,
+        "level_one_register": register,
+        "memory": digits(alloc, &state.bytes)?,
+    })?;
+    Ok(value)
+}
+
 /// The blocks, one after another.
-pub(crate) fn blocks_json(alloc: Global, blocks: &[NamedBlock]) -> Result<Value, NoMemory> {
+pub(crate) fn blocks_json(
+    alloc: Global,
+    below: Below,
+    blocks: &[NamedBlock],
+) -> Result<Value, NoMemory> {
     let mut list = Vec::new(alloc);
     for named in blocks {
-        list.push(block_json(alloc, named)?)?;
+        list.push(match below {
+            Below::LevelTwo => block_json(alloc, named)?,
+            Below::Outside => alone_json(alloc, named)?,
+        })?;
     }
     Ok(Value::Array(list))
 }

@@ -2,7 +2,7 @@
 
 use crate::object::Object;
 use count_usage::{BankUse, LevelUse, Usage, tags_used};
-use lf_rules::{Level, NoMemory, OrgShape, Shape};
+use lf_rules::{Below, Level, NoMemory, OrgShape, Shape};
 use serde_json::{Value, json};
 use std::alloc::Global;
 
@@ -35,11 +35,16 @@ fn level_json(
     Ok(object.done())
 }
 
-/// What is used of a bank.
+/// What is used of a bank. A cache by itself has no level two.
 fn bank_json(alloc: Global, shape: &Shape, used: &BankUse) -> Result<Value, NoMemory> {
     let level1 = level_json(alloc, used.level1, &shape.level1, shape.block / 8)?;
-    let level2 = level_json(alloc, used.level2, &shape.level2, shape.factor)?;
-    Ok(json!(in alloc; {"level1": level1, "level2": level2})?)
+    match shape.below {
+        Below::LevelTwo => {
+            let level2 = level_json(alloc, used.level2, &shape.level2, shape.factor)?;
+            Ok(json!(in alloc; {"level1": level1, "level2": level2})?)
+        }
+        Below::Outside => Ok(json!(in alloc; {"level1": level1})?),
+    }
 }
 
 fn banks_json(alloc: Global, shape: &Shape, banks: &[BankUse]) -> Result<Value, NoMemory> {

@@ -3,7 +3,7 @@ use Rattle.std.specs.Prelude.{ℕ, List, [], ◌∷◌, ◌++◌, Option, Some, 
 use Rattle.std.specs.Fmt.{decimal}
 use Rattle.std.specs.List.{flat_map}
 use Rattle.lf_rules.specs.declared.event.Event.{Event}
-use Rattle.lf_rules.specs.declared.event.Event.TheVariants.{Issue, Reply, Fence}
+use Rattle.lf_rules.specs.declared.event.Event.TheVariants.{Issue, Reply, Fence, Masked}
 use Rattle.lf_rules.specs.declared.event.Record.{Record}
 use Rattle.explain_lines.specs.Marks.{Beside}
 use Rattle.explain_lines.specs.Lines.{line_at, lines_text}
@@ -37,6 +37,7 @@ missing_text rs marks bank number below above =
 abbrev pub log_named : ℕ → ℕ → Event → List ℕ
 log_named log bank (Issue op tag size address bytes) = codes "port " ++ decimal log
 log_named log bank (Reply tag size bytes) = codes "port " ++ decimal log
+log_named log bank (Masked op tag block mask bytes) = codes "port " ++ decimal log
 log_named log bank Fence = codes "port " ++ decimal log
 log_named log bank _ = codes "bank " ++ decimal bank
 

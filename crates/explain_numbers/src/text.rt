@@ -51,7 +51,9 @@ impl fmt::Display for LogOf<'_> {
     fn fmt<W: fmt::Write>(&self, f: &mut fmt::Formatter<W>) -> fmt::Result {
         let Record { log, bank, .. } = self.0;
         match &self.0.event {
-            Event::Issue { .. } | Event::Reply { .. } | Event::Fence => write!(f, "port {log}"),
+            Event::Issue { .. } | Event::Reply { .. } | Event::Fence | Event::Masked { .. } => {
+                write!(f, "port {log}")
+            }
             _ => write!(f, "bank {bank}"),
         }
     }

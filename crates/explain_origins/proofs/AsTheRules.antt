@@ -6,8 +6,13 @@ use Rattle.lf_rules.specs.declared.event.Event.TheVariants as events
 use Rattle.lf_rules.specs.declared.event.Event.{Event}
 use Rattle.lf_rules.specs.declared.event.Record.{Record}
 use Rattle.lf_rules.specs.declared.shape.Shape.{Shape}
-use Rattle.lf_rules.specs.State.{Local, Ready, Request, Slice, opening, seen_by}
-use Rattle.lf_rules.specs.Table.{bank_effect, request_of, slice_after}
+use Rattle.lf_rules.specs.declared.shape.Below.{Below}
+use Rattle.lf_rules.specs.declared.shape.Below.TheVariants as belows
+use Rattle.lf_rules.specs.Address.{FlatMemory}
+use Rattle.lf_rules.specs.OuterTable.{masked_request, outer_slice}
+use Rattle.lf_rules.specs.State.{Local, Ready, Request, Slice, opening, seen_by, update}
+use Rattle.lf_rules.specs.Step.{by_below, step_effect}
+use Rattle.lf_rules.specs.Table.{request_of, slice_after}
 use Rattle.explain_history.specs.BankOrder.{records_at}
 use Rattle.explain_history.specs.Touching.{record_at}
 use Rattle.explain_origins.specs.declared.requests.IssuedRequest.{IssuedRequest}
@@ -48,24 +53,63 @@ module _ (shape : Shape) (queues : Queues) (slice : Slice) (are : AreOfSlice que
       ∙ sym (map-append (issued_at 0) (slice.queue log) (request ∷ [])))
       (are.each p)
 
-  one_event : (place log : ℕ) (value : List ℕ) (replies : List Ready) (event : Event)
-      → AreOfSlice (queued shape place log event queues) (slice_after shape value replies slice log event)
-  one_event place log value replies (events.Issue op tag size address bytes) =
-      record { each = joined place log (request_of shape tag op size address bytes.items) }
-  one_event place log value replies (events.Reply tag size bytes) = record { each = are.each }
-  one_event place log value replies (events.Hit port tag) = record { each = left port }
-  one_event place log value replies (events.Primary port tag register) = record { each = left port }
-  one_event place log value replies (events.Merge port tag register) = record { each = left port }
-  one_event place log value replies (events.Stall port tag) = record { each = are.each }
-  one_event place log value replies (events.Fill1 block bytes) = record { each = are.each }
-  one_event place log value replies (events.Evict1 block mask bytes) = record { each = are.each }
-  one_event place log value replies (events.SecondHit block) = record { each = are.each }
-  one_event place log value replies (events.SecondPrimary block register) = record { each = are.each }
-  one_event place log value replies (events.SecondMerge block register) = record { each = are.each }
-  one_event place log value replies (events.SecondStall block) = record { each = are.each }
-  one_event place log value replies (events.Fill2 second bytes) = record { each = are.each }
-  one_event place log value replies (events.Evict2 second masks bytes) = record { each = are.each }
-  one_event place log value replies events.Fence = record { each = are.each }
+  -- in either hierarchy
+  in_either : (below : Below) (now : Queues) (two alone : Slice) → AreOfSlice now two → AreOfSlice now alone
+      → AreOfSlice now (by_below below two alone)
+  in_either belows.LevelTwo now two alone at_two by_itself = at_two
+  in_either belows.Outside now two alone at_two by_itself = by_itself
+
+  -- a request under a mask joins its queue in a cache by itself
+  masked_joined : (below : Below) (place log : ℕ) (request : Request)
+      → AreOfSlice (by_below below queues (update queues log (queues log ++ issued_at place request ∷ [])))
+      (by_below below slice (record slice { queue = update slice.queue log (slice.queue log ++ request ∷ []) }))
+  masked_joined belows.LevelTwo place log request = record { each = are.each }
+  masked_joined belows.Outside place log request = record { each = joined place log request }
+
+  one_event : (place log : ℕ) (value : List ℕ) (replies : List Ready) (memory : FlatMemory) (event : Event)
+      → AreOfSlice (queued shape place log event queues)
+      (by_below shape.below (slice_after shape value replies slice log event) (outer_slice shape memory slice log event))
+  one_event place log value replies memory (events.Issue op tag size address bytes) =
+      in_either shape.below _ _ _ (record { each = joined place log (request_of shape tag op size address bytes.items) })
+      (record { each = joined place log (request_of shape tag op size address bytes.items) })
+  one_event place log value replies memory (events.Masked op tag block mask bytes) =
+      masked_joined shape.below place log (masked_request tag op block mask.0 bytes.items)
+  one_event place log value replies memory (events.Hit port tag) =
+      in_either shape.below _ _ _ (record { each = left port }) (record { each = left port })
+  one_event place log value replies memory (events.Primary port tag register) =
+      in_either shape.below _ _ _ (record { each = left port }) (record { each = left port })
+  one_event place log value replies memory (events.Merge port tag register) =
+      in_either shape.below _ _ _ (record { each = left port }) (record { each = left port })
+  one_event place log value replies memory (events.Reply tag size bytes) =
+      in_either shape.below _ _ _ (record { each = are.each }) (record { each = are.each })
+  one_event place log value replies memory (events.Stall port tag) =
+      in_either shape.below _ _ _ (record { each = are.each }) (record { each = are.each })
+  one_event place log value replies memory (events.Fill1 block bytes) =
+      in_either shape.below _ _ _ (record { each = are.each }) (record { each = are.each })
+  one_event place log value replies memory (events.Evict1 block mask bytes) =
+      in_either shape.below _ _ _ (record { each = are.each }) (record { each = are.each })
+  one_event place log value replies memory (events.SecondHit block) =
+      in_either shape.below _ _ _ (record { each = are.each }) (record { each = are.each })
+  one_event place log value replies memory (events.SecondPrimary block register) =
+      in_either shape.below _ _ _ (record { each = are.each }) (record { each = are.each })
+  one_event place log value replies memory (events.SecondMerge block register) =
+      in_either shape.below _ _ _ (record { each = are.each }) (record { each = are.each })
+  one_event place log value replies memory (events.SecondStall block) =
+      in_either shape.below _ _ _ (record { each = are.each }) (record { each = are.each })
+  one_event place log value replies memory (events.Fill2 second bytes) =
+      in_either shape.below _ _ _ (record { each = are.each }) (record { each = are.each })
+  one_event place log value replies memory (events.Evict2 second masks bytes) =
+      in_either shape.below _ _ _ (record { each = are.each }) (record { each = are.each })
+  one_event place log value replies memory events.Fence =
+      in_either shape.below _ _ _ (record { each = are.each }) (record { each = are.each })
+  one_event place log value replies memory (events.Grant block) =
+      in_either shape.below _ _ _ (record { each = are.each }) (record { each = are.each })
+  one_event place log value replies memory (events.Clean1 block mask bytes) =
+      in_either shape.below _ _ _ (record { each = are.each }) (record { each = are.each })
+  one_event place log value replies memory (events.Yield1 block) =
+      in_either shape.below _ _ _ (record { each = are.each }) (record { each = are.each })
+  one_event place log value replies memory (events.Outside block mask bytes) =
+      in_either shape.below _ _ _ (record { each = are.each }) (record { each = are.each })
 
 -- what holds of the records to come holds from here on
 abbrev FollowFrom : Shape → List Record → List (Option ℕ) → Type 0
@@ -78,8 +122,8 @@ at_record : (shape : Shape) (rs : List Record) (places : List (Option ℕ)) → 
     (bank_after_all shape now (option_to_list o ++ records_at rs places)).slice
 at_record shape rs places next place None queues now are = next queues now are
 at_record shape rs places next place (Some r) queues now are =
-    next (queued shape place r.log r.event queues) (bank_effect shape now r)
-    (one_event shape queues now.slice are place r.log _ _ r.event)
+    next (queued shape place r.log r.event queues) (step_effect shape now r)
+    (one_event shape queues now.slice are place r.log _ _ _ r.event)
 
 follow : (shape : Shape) (rs : List Record) (places : List (Option ℕ)) → FollowFrom shape rs places
 follow shape rs [] = λ queues now are. are

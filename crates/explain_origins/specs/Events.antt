@@ -1,11 +1,13 @@
 -- What an event begins or ends, by the block or the tag that it is about.
 use Rattle.std.specs.Prelude.{ℕ, ◌+◌, ◌*◌, Bool, false, ◌&&◌, ◌==◌, nat_le, nat_lt, Option, Some, None, if◌then◌else◌}
+use Rattle.std.specs.List.{list_any, range_with_len}
 use Rattle.lf_rules.specs.declared.event.Event.{Event}
 use Rattle.lf_rules.specs.declared.event.Event.TheVariants.{Issue, Reply, Hit, Primary, Merge, Fill1, Evict1}
 use Rattle.lf_rules.specs.declared.event.Event.TheVariants.{SecondHit, SecondPrimary, SecondMerge, SecondStall}
-use Rattle.lf_rules.specs.declared.event.Event.TheVariants.{Fill2, Evict2}
+use Rattle.lf_rules.specs.declared.event.Event.TheVariants.{Fill2, Evict2, Masked, Grant, Clean1, Yield1}
+use Rattle.lf_rules.specs.declared.mask.Mask.{Mask}
 use Rattle.lf_rules.specs.declared.shape.Shape.{Shape}
-use Rattle.lf_rules.specs.Address.{second_of}
+use Rattle.lf_rules.specs.Address.{is_under, second_of}
 use Rattle.explain_origins.specs.declared.requests.IssuedRequest.{IssuedRequest}
 
 -- is it this block or tag?
@@ -19,6 +21,35 @@ is_key key (Some other) = key == other
 abbrev pub fill1_block : Event → Option ℕ
 fill1_block (Fill1 block bytes) = Some block
 fill1_block _ = None
+
+-- the block whose targets are served: it is filled, or its line gets the right to be written
+abbrev pub served_block : Event → Option ℕ
+served_block (Fill1 block bytes) = Some block
+served_block (Grant block) = Some block
+served_block _ = None
+
+-- the block whose line loses the right to be written
+abbrev pub yielded_block : Event → Option ℕ
+yielded_block (Yield1 block) = Some block
+yielded_block _ = None
+
+-- the block whose line gets the right to be written, or is given up
+abbrev pub owned_or_gone : Event → Option ℕ
+owned_or_gone (Fill1 block bytes) = Some block
+owned_or_gone (Grant block) = Some block
+owned_or_gone (Evict1 block mask bytes) = Some block
+owned_or_gone _ = None
+
+-- the block whose line is written back and stays
+abbrev pub cleaned_block : Event → Option ℕ
+cleaned_block (Clean1 block mask bytes) = Some block
+cleaned_block _ = None
+
+-- the block of which a new line begins, or whose line is given up
+abbrev pub filled_or_gone : Event → Option ℕ
+filled_or_gone (Fill1 block bytes) = Some block
+filled_or_gone (Evict1 block mask bytes) = Some block
+filled_or_gone _ = None
 
 -- the block whose line level one gives up
 abbrev pub evict1_block : Event → Option ℕ
@@ -100,11 +131,31 @@ either (Some n) other = Some n
 
 -- ---- stores
 
+-- does the request ask for the byte at this place of its block?
+abbrev pub is_byte_of : Option Mask → ℕ → ℕ → ℕ → Bool
+is_byte_of None offset size place = nat_le offset place && nat_lt place (offset + size)
+is_byte_of (Some mask) offset size place = is_under mask.0 place
+
+abbrev pub has_byte : IssuedRequest → ℕ → Bool
+has_byte request place = is_byte_of request.mask request.offset request.size place
+
 -- does the request write the byte at this place of the block?
 abbrev pub writes_byte : ℕ → ℕ → IssuedRequest → Bool
-writes_byte block offset request =
-    request.is_store && request.block == block
-    && nat_le request.offset offset && nat_lt offset (request.offset + request.size)
+writes_byte block offset request = request.is_store && request.block == block && has_byte request offset
+
+-- do the requests ask for a byte in common?
+abbrev pub share_byte : IssuedRequest → IssuedRequest → Bool
+share_byte a b = a.block == b.block && list_any (λ place. has_byte a place && has_byte b place) (range_with_len 0 64)
+
+-- the block of a miss of the port, where its request asks for a byte of this one
+abbrev pub beside : ℕ → IssuedRequest → ℕ → Option IssuedRequest → Option ℕ
+beside port one named None = None
+beside port one named (Some request) = if named == port && share_byte request one then Some request.block else None
+
+abbrev pub miss_beside : ℕ → IssuedRequest → Option IssuedRequest → Event → Option ℕ
+miss_beside port one request (Primary named tag register) = beside port one named request
+miss_beside port one request (Merge named tag register) = beside port one named request
+miss_beside port one request _ = None
 
 -- the block of a store that is accepted and writes this byte
 abbrev pub store_of_byte : ℕ → ℕ → Option IssuedRequest → Option ℕ
@@ -143,6 +194,7 @@ tag_at wanted port tag = if port == wanted then Some tag else None
 -- the tag of the port's request that is issued
 abbrev pub issued_tag : ℕ → ℕ → Event → Option ℕ
 issued_tag wanted log (Issue op tag size address bytes) = tag_at wanted log tag
+issued_tag wanted log (Masked op tag block mask bytes) = tag_at wanted log tag
 issued_tag wanted log _ = None
 
 -- the tag of the port's request that a hit, a primary miss or a merge accepts
@@ -164,6 +216,7 @@ port_tag port tag = port * 256 + tag
 -- the port and the tag of a request that is issued
 abbrev pub issued_by_any : ℕ → Event → Option ℕ
 issued_by_any log (Issue op tag size address bytes) = Some (port_tag log tag)
+issued_by_any log (Masked op tag block mask bytes) = Some (port_tag log tag)
 issued_by_any log _ = None
 
 -- the port and the tag of a request that is replied to

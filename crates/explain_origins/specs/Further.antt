@@ -8,7 +8,8 @@ use Rattle.lf_rules.specs.declared.event.Record.{Record}
 use Rattle.lf_rules.specs.declared.rule.Rule.{Rule}
 use Rattle.lf_rules.specs.declared.rule.Rule.TheVariants as rules
 use Rattle.lf_rules.specs.declared.shape.Shape.{Shape}
-use Rattle.lf_rules.specs.Address.{block_of, offset_of, second_of}
+use Rattle.lf_rules.specs.Address.{block_of, is_under, offset_of, second_of}
+use Rattle.lf_rules.specs.OuterTable.{rank}
 use Rattle.explain_history.specs.Touching.{record_at}
 use Rattle.explain_origins.specs.declared.standing.Origin.{Origin}
 use Rattle.explain_origins.specs.declared.origins.Origins.{Origins}
@@ -113,23 +114,28 @@ all_in shape rs before (parts.NamedRequest port tag bank number) =
 all_in shape rs before parts.Supplied = supplied shape (steps shape none_waits rs before)
 all_in shape rs before part = standing shape part (steps shape none_waits rs before)
 
--- the byte that a request writes at an address
-abbrev pub byte_of : ℕ → Event → Option ℕ
-byte_of address (events.Issue op tag size start bytes) =
-    if nat_le start address then slice_get bytes.items (address - start) else None
-byte_of address _ = None
+-- the byte at this place of its block that a store under a mask writes
+abbrev pub masked_byte : ℕ → List ℕ → ℕ → Option ℕ
+masked_byte mask bytes place = if is_under mask place then slice_get bytes (rank mask place) else None
 
-abbrev pub byte_by : ℕ → Option Record → Option ℕ
-byte_by address None = None
-byte_by address (Some r) = byte_of address r.event
+-- the byte that a request writes at an address, which is at this place of the request's block
+abbrev pub byte_of : ℕ → ℕ → Event → Option ℕ
+byte_of address place (events.Issue op tag size start bytes) =
+    if nat_le start address then slice_get bytes.items (address - start) else None
+byte_of address place (events.Masked op tag block mask bytes) = masked_byte mask.0 bytes.items place
+byte_of address place _ = None
+
+abbrev pub byte_by : ℕ → ℕ → Option Record → Option ℕ
+byte_by address place None = None
+byte_by address place (Some r) = byte_of address place r.event
 
 -- does the request of the record write this value there?
-abbrev pub wrote : List Record → ℕ → ℕ → Origin → Bool
-wrote rs address value origin = is_key value (byte_by address (record_at rs origin.request))
+abbrev pub wrote : List Record → ℕ → ℕ → ℕ → Origin → Bool
+wrote rs address place value origin = is_key value (byte_by address place (record_at rs origin.request))
 
 -- of these records those whose stores are told
 abbrev pub told_of : List Record → StatePart → List Origin → List Origin
-told_of rs (parts.LaterStores port tag block offset address value) all = filter (wrote rs address value) all
+told_of rs (parts.LaterStores port tag block offset address value) all = filter (wrote rs address offset value) all
 told_of rs part all = all
 
 -- the records of a part, each with its request

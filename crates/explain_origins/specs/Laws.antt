@@ -4,7 +4,7 @@ use Rattle.lf_rules.specs.declared.event.Record.{Record}
 use Rattle.lf_rules.specs.declared.shape.Shape.{Shape}
 use Rattle.lf_rules.specs.Address.{FlatMemory}
 use Rattle.lf_rules.specs.State.{Local, Slice, opening, seen_by}
-use Rattle.lf_rules.specs.Table.{bank_effect}
+use Rattle.lf_rules.specs.Step.{step_effect}
 use Rattle.explain_history.specs.BankOrder.{records_at}
 use Rattle.explain_history.specs.Touching.{record_at}
 use Rattle.explain_origins.specs.declared.requests.IssuedRequest.{IssuedRequest}
@@ -19,7 +19,7 @@ queues_after_all shape queues rs (at ∷ places) =
 
 -- the state of the rules after these records of a bank
 abbrev pub bank_after_all : Shape → Local → List Record → Local
-bank_after_all shape now rs = fold (bank_effect shape) now rs
+bank_after_all shape now rs = fold (step_effect shape) now rs
 
 abbrev pub placeless : IssuedRequest → IssuedRequest
 placeless request = record request { place = 0 }

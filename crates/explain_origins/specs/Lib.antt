@@ -1,4 +1,5 @@
 -- Which records the state comes from that a rule is about, and their text.
+pub mod Changes
 pub mod Events
 pub mod Freed
 pub mod Further

@@ -11,7 +11,8 @@ use Rattle.explain_origins.specs.Events.{miss2_second}
 use Rattle.explain_origins.specs.Events.{issued_tag, accepted_tag, replied_tag, only, at_place, either, within}
 use Rattle.explain_origins.specs.Events.{in_register}
 use Rattle.explain_origins.specs.Events.{cleared_by}
-use Rattle.explain_origins.specs.Events.{store_of_byte, stored_block, written_back}
+use Rattle.explain_origins.specs.Events.{store_of_byte, stored_block, written_back, served_block, yielded_block}
+use Rattle.explain_origins.specs.Events.{owned_or_gone, cleaned_block, filled_or_gone, miss_beside}
 use Rattle.explain_origins.specs.Events.{asked_block, looked_up, of_level_two, issued_by_any, replied_to_any}
 use Rattle.explain_origins.specs.Requests.{place_of}
 
@@ -60,36 +61,48 @@ begun shape parts.Supplied place request r = looked_up r.event
 begun shape parts.LastOfLevelTwo place request r = of_level_two r.event
 begun shape parts.LastOfBank place request r = Some 0
 begun shape parts.Unreplied place request r = issued_by_any r.log r.event
+begun shape (parts.LastChange block offset) place request r = store_of_byte block offset request
+begun shape (parts.ChangeBefore port tag block offset) place request r = store_of_byte block offset request
+begun shape (parts.DirtyAlone block) place request r =
+    only block (either (either (fill1_block r.event) (cleaned_block r.event)) (stored_block request))
+begun shape (parts.Yielded block) place request r = only block (yielded_block r.event)
+begun shape (parts.Overtaken port one) place request r = miss_beside port one request r.event
 
--- What it ends: an eviction takes a line away, a fill frees the registers of its block, an accepted request waits no
--- longer, and a request has one reply. With a store to a byte the one before is no longer the last.
+-- What it ends: an eviction takes a line away, and a fill begins it anew; a fill or a grant frees the registers of its
+-- block, an accepted request waits no longer, and a request has one reply. With a store to a byte the one before is no
+-- longer the last.
 abbrev pub ended : StatePart → Option IssuedRequest → Record → Option ℕ
-ended (parts.LinesOfSet1 set) request r = evict1_block r.event
+ended (parts.LinesOfSet1 set) request r = filled_or_gone r.event
 ended (parts.LinesOfSet2 set) request r = evict2_second r.event
-ended parts.Registers1 request r = fill1_block r.event
+ended parts.Registers1 request r = served_block r.event
 ended parts.Registers2 request r = fill2_second r.event
 ended (parts.Queue port) request r = place_of request
 ended (parts.Unanswered port) request r = replied_tag port r.log r.event
 ended (parts.Outstanding port) request r = replied_tag port r.log r.event
 ended (parts.BusyTag port tag) request r = replied_tag port r.log r.event
 ended (parts.WithinSecond second) request r = either (fill1_block r.event) (evict1_block r.event)
-ended (parts.Register1 register) request r = fill1_block r.event
+ended (parts.Register1 register) request r = served_block r.event
 ended (parts.Register2 register) request r = fill2_second r.event
-ended (parts.Freed1 register) request r = fill1_block r.event
+ended (parts.Freed1 register) request r = served_block r.event
 ended (parts.Freed2 register) request r = fill2_second r.event
-ended (parts.Targets1 block) request r = fill1_block r.event
+ended (parts.Targets1 block) request r = served_block r.event
+ended (parts.Overtaken port one) request r = served_block r.event
 ended (parts.Targets2 second) request r = fill2_second r.event
-ended (parts.Line1 block) request r = evict1_block r.event
+ended (parts.Line1 block) request r = filled_or_gone r.event
 ended (parts.Line2 second) request r = evict2_second r.event
 ended (parts.NamedRequest port tag bank number) request r = place_of request
 ended (parts.Accepted port tag) request r = replied_tag port r.log r.event
 ended (parts.LaterStores port tag block offset address value) request r =
     cleared_by tag (accepted_tag port r.event) block
-ended (parts.Served bank) request r = fill1_block r.event
+ended (parts.Served bank) request r = served_block r.event
 ended (parts.LastStore block offset) request r = store_of_byte block offset request
+ended (parts.LastChange block offset) request r = store_of_byte block offset request
+ended (parts.ChangeBefore port tag block offset) request r = store_of_byte block offset request
 ended (parts.DirtyLine1 block) request r = evict1_block r.event
+ended (parts.DirtyAlone block) request r = evict1_block r.event
+ended (parts.Yielded block) request r = owned_or_gone r.event
 ended (parts.DirtyLine2 second) request r = evict2_second r.event
-ended parts.Held1 request r = fill1_block r.event
+ended parts.Held1 request r = served_block r.event
 ended parts.Held2 request r = fill2_second r.event
 ended parts.Asked request r = looked_up r.event
 ended parts.Supplied request r = fill1_block r.event

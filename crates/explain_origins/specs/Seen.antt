@@ -6,6 +6,8 @@ use Rattle.lf_rules.specs.declared.event.Event.TheVariants.{Reply}
 use Rattle.lf_rules.specs.declared.event.Record.{Record}
 use Rattle.lf_rules.specs.declared.rule.Rule.{Rule}
 use Rattle.lf_rules.specs.declared.rule.Rule.TheVariants.{ReplyData}
+use Rattle.lf_rules.specs.declared.shape.Shape.{Shape}
+use Rattle.lf_rules.specs.Step.{by_below}
 use Rattle.explain_history.specs.Touching.{record_at}
 use Rattle.explain_origins.specs.Events.{is_key, accepted_tag}
 
@@ -29,8 +31,8 @@ abbrev pub before_reply : List Record → ℕ → Event → List (Option ℕ) �
 before_reply rs log (Reply tag size bytes) before = before_acceptance rs log tag before
 before_reply rs log _ before = before
 
--- A reply has to have the bytes that were there when its request was accepted. All other rules look at all records
--- before.
-abbrev pub seen_by : List Record → Rule → Record → List (Option ℕ) → List (Option ℕ)
-seen_by rs ReplyData r before = before_reply rs r.log r.event before
-seen_by rs _ r before = before
+-- A reply has to have the bytes that were there when its request was accepted, and in a cache by itself those that were
+-- there when it took effect, which the part of the state says. All other rules look at all records before.
+abbrev pub seen_by : Shape → List Record → Rule → Record → List (Option ℕ) → List (Option ℕ)
+seen_by shape rs ReplyData r before = by_below shape.below (before_reply rs r.log r.event before) before
+seen_by shape rs _ r before = before

@@ -43,6 +43,12 @@ heading parts.Supplied = codes "supplied by level two, and not filled into level
 heading parts.LastOfLevelTwo = codes "the last event of level two"
 heading parts.LastOfBank = codes "the last event of the bank"
 heading parts.Unreplied = codes "the requests without a reply, the oldest first"
+heading (parts.DirtyAlone block) = codes "the fill of the line, the stores to it and its cleanings"
+heading (parts.Yielded block) = codes "the yield of the line"
+heading (parts.Overtaken port request) = codes "the waiting requests of the port with a byte of the request"
+heading (parts.LastChange block offset) = codes "the last change of the first byte that differs"
+heading (parts.ChangeBefore port tag block offset) =
+    codes "the last change of the first byte that differs before the request took effect"
 
 -- the line of the request that a record accepts, where it accepts one
 abbrev pub request_line : List Record → List Beside → Option ℕ → List ℕ

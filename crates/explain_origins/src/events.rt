@@ -7,10 +7,13 @@ ghost use Rattle.explain_origins.specs.Events.{store_of_byte, stored_block, writ
 ghost use Rattle.explain_origins.specs.Events.{issued_tag, accepted_tag, replied_tag, named_register, in_register};
 ghost use Rattle.explain_origins.specs.Events.{cleared_by, asked_block, looked_up, of_level_two, port_tag};
 ghost use Rattle.explain_origins.specs.Events.{at_place, issued_by_any, replied_to_any};
+ghost use Rattle.explain_origins.specs.Events.{served_block, yielded_block, owned_or_gone, cleaned_block};
+ghost use Rattle.explain_origins.specs.Events.{filled_or_gone, has_byte, share_byte, miss_beside};
 ghost use Rattle.explain_origins.specs.Requests.{place_of};
+ghost use Rattle.lf_rules.specs.Address.{is_under};
 
 use crate::requests::IssuedRequest;
-use lf_rules::{Event, Record, Shape};
+use lf_rules::{Event, Mask, Record, Shape};
 
 /// The block that level one gets.
 pub(crate) fn fill1_block(event: &Event) -> Option<u32>
@@ -18,6 +21,58 @@ pub(crate) fn fill1_block(event: &Event) -> Option<u32>
 {
     match event {
         Event::Fill1 { block, .. } => Some(*block),
+        _ => None,
+    }
+}
+
+/// The block whose targets are served: it is filled, or its line gets the right to be written.
+pub(crate) fn served_block(event: &Event) -> Option<u32>
+    ensures { result ≡ served_block event.now }
+{
+    match event {
+        Event::Fill1 { block, .. } | Event::Grant { block } => Some(*block),
+        _ => None,
+    }
+}
+
+/// The block whose line loses the right to be written.
+pub(crate) fn yielded_block(event: &Event) -> Option<u32>
+    ensures { result ≡ yielded_block event.now }
+{
+    match event {
+        Event::Yield1 { block } => Some(*block),
+        _ => None,
+    }
+}
+
+/// The block whose line gets the right to be written, or is given up.
+pub(crate) fn owned_or_gone(event: &Event) -> Option<u32>
+    ensures { result ≡ owned_or_gone event.now }
+{
+    match event {
+        Event::Fill1 { block, .. } | Event::Grant { block } | Event::Evict1 { block, .. } => {
+            Some(*block)
+        }
+        _ => None,
+    }
+}
+
+/// The block whose line is written back and stays.
+pub(crate) fn cleaned_block(event: &Event) -> Option<u32>
+    ensures { result ≡ cleaned_block event.now }
+{
+    match event {
+        Event::Clean1 { block, .. } => Some(*block),
+        _ => None,
+    }
+}
+
+/// The block of which a new line begins, or whose line is given up.
+pub(crate) fn filled_or_gone(event: &Event) -> Option<u32>
+    ensures { result ≡ filled_or_gone event.now }
+{
+    match event {
+        Event::Fill1 { block, .. } | Event::Evict1 { block, .. } => Some(*block),
         _ => None,
     }
 }
@@ -164,15 +219,58 @@ pub(crate) fn either(first: Option<u64>, second: Option<u64>) -> Option<u64>
     }
 }
 
+/// Whether the mask has the byte at this place.
+pub(crate) fn is_under(mask: Mask, place: u32) -> bool
+    ensures { result ≡ is_under mask.0 place }
+{
+    place < 64 && mask.0 >> place & 1 == 1
+}
+
+/// Whether the request asks for the byte at this place of its block.
+pub(crate) fn has_byte(request: &IssuedRequest, place: u32) -> bool
+    ensures { result ≡ has_byte request.now place }
+{
+    match request.mask {
+        Some(mask) => is_under(mask, place),
+        None => {
+            let end = u64::from(request.offset) + u64::from(request.size);
+            request.offset <= place && u64::from(place) < end
+        }
+    }
+}
+
 /// Whether the request writes the byte at this place of the block.
 pub(crate) fn writes_byte(block: u64, offset: u32, request: &IssuedRequest) -> bool
     ensures { result ≡ writes_byte block offset request.now }
 {
-    let end = u64::from(request.offset) + u64::from(request.size);
-    request.is_store
-        && request.block == block
-        && request.offset <= offset
-        && u64::from(offset) < end
+    request.is_store && request.block == block && has_byte(request, offset)
+}
+
+/// Whether the requests ask for a byte in common.
+fn share_byte(a: &IssuedRequest, b: &IssuedRequest) -> bool
+    ensures { result ≡ share_byte a.now b.now }
+{
+    a.block == b.block && (0..64).any(|place| has_byte(a, place) && has_byte(b, place))
+}
+
+/// The block of a miss of the port, where its request asks for a byte of this one.
+pub(crate) fn miss_beside(
+    port: u8,
+    one: &IssuedRequest,
+    request: Option<IssuedRequest>,
+    event: &Event,
+) -> Option<u64>
+    ensures { result ≡ miss_beside port one.now request event.now }
+{
+    let (Event::Primary { port: named, .. } | Event::Merge { port: named, .. }) = event else {
+        return None;
+    };
+    let request = request?;
+    if *named == port && share_byte(&request, one) {
+        Some(request.block)
+    } else {
+        None
+    }
 }
 
 /// The block of a store that is accepted and writes this byte.
@@ -272,7 +370,7 @@ pub(crate) fn issued_tag(port: u8, item: &Record) -> Option<u64>
     ensures { result ≡ issued_tag port item.now.log item.now.event }
 {
     match &item.event {
-        Event::Issue { tag, .. } => tag_at(port, item.log, *tag),
+        Event::Issue { tag, .. } | Event::Masked { tag, .. } => tag_at(port, item.log, *tag),
         _ => None,
     }
 }
@@ -311,7 +409,7 @@ pub(crate) fn issued_by_any(item: &Record) -> Option<u64>
     ensures { result ≡ issued_by_any item.now.log item.now.event }
 {
     match &item.event {
-        Event::Issue { tag, .. } => Some(port_tag(item.log, *tag)),
+        Event::Issue { tag, .. } | Event::Masked { tag, .. } => Some(port_tag(item.log, *tag)),
         _ => None,
     }
 }

@@ -7,11 +7,12 @@ ghost use Rattle.explain_origins.specs.Further.{named_request, further_parts};
 ghost use Rattle.explain_origins.specs.Further.{replied_request, is_later_request, later_request, or_later};
 ghost use Rattle.explain_origins.specs.Further.{is_among, supplied, all_in, byte_of, wrote, told_of, records_in};
 ghost use Rattle.explain_origins.specs.declared.parts.StatePart.TheVariants.{Served};
-ghost use Rattle.explain_origins.specs.Further.{AreOf, AreFurther};
+ghost use Rattle.explain_origins.specs.Further.{masked_byte, AreOf, AreFurther};
 ghost use Rattle.explain_origins.specs.Origins.{steps};
 ghost use Rattle.explain_origins.specs.Requests.{none_waits};
+ghost use Rattle.lf_rules.specs.OuterTable.{rank};
 
-use crate::events::issued_tag;
+use crate::events::{is_under, issued_tag};
 use crate::freed::last_end;
 use crate::origins::{BrokenRule, Origins};
 use crate::parts::StatePart;
@@ -19,7 +20,7 @@ use crate::requests::{block_at, offset_at};
 use crate::standing::{Origin, origin_of, origins_standing};
 use explain_history::{record_at, room};
 use lf_codec::Packed;
-use lf_rules::{Event, NoMemory, Record, Rule, Shape};
+use lf_rules::{Block, Event, Mask, NoMemory, Record, Rule, Shape};
 use std::alloc::Global;
 
 /// The targets of the block of a stall, which is at this address where level one stalls.
@@ -272,31 +273,51 @@ fn all_in(
     }
 }
 
-/// The byte that a request writes at an address.
-fn byte_of(address: u64, event: &Event) -> Option<u8>
-    ensures { result ≡ byte_of address event.now }
+/// How many bytes of the mask stand before the place.
+fn rank(mask: Mask, place: u32) -> usize
+    ensures { result ≡ rank mask.0 place }
 {
-    let Event::Issue {
-        address: start,
-        bytes,
-        ..
-    } = event
-    else {
-        return None;
-    };
-    let place = address.checked_sub(*start)?;
-    bytes.get(place as usize).copied()
+    (0..place).filter(|before| is_under(mask, *before)).count()
 }
 
-/// Whether the request of the record writes this value there.
-fn wrote(records: &Packed, address: u64, value: u8, origin: &Origin) -> bool
-    ensures { result ≡ wrote records.now.records address value origin.now }
+/// The byte at this place of its block that a store under a mask writes.
+fn masked_byte(mask: Mask, bytes: &Block, place: u32) -> Option<u8>
+    ensures { result ≡ masked_byte mask.0 bytes.now.items place }
+{
+    if is_under(mask, place) {
+        bytes.get(rank(mask, place)).copied()
+    } else {
+        None
+    }
+}
+
+/// The byte that a request writes at an address, which is at this place of the request's block.
+fn byte_of(address: u64, place: u32, event: &Event) -> Option<u8>
+    ensures { result ≡ byte_of address place event.now }
+{
+    match event {
+        Event::Issue {
+            address: start,
+            bytes,
+            ..
+        } => {
+            let place = address.checked_sub(*start)?;
+            bytes.get(place as usize).copied()
+        }
+        Event::Masked { mask, bytes, .. } => masked_byte(*mask, bytes, place),
+        _ => None,
+    }
+}
+
+/// Whether the request of the record writes this value at the address, which is at this place of the request's block.
+fn wrote(records: &Packed, address: u64, place: u32, value: u8, origin: &Origin) -> bool
+    ensures { result ≡ wrote records.now.records address place value origin.now }
 {
     let mut room = room();
     let Some(item) = record_at(records, origin.request, &mut room) else {
         return false;
     };
-    match byte_of(address, &item.event) {
+    match byte_of(address, place, &item.event) {
         Some(byte) => value == byte,
         None => false,
     }
@@ -306,8 +327,14 @@ fn wrote(records: &Packed, address: u64, value: u8, origin: &Origin) -> bool
 fn keep_told(records: &Packed, part: StatePart, all: &mut Vec<Origin>)
     ensures { all.new.items ≡ told_of records.now.records part all.old.items }
 {
-    if let StatePart::LaterStores { address, value, .. } = part {
-        all.retain(|origin| wrote(records, address, value, origin));
+    if let StatePart::LaterStores {
+        offset,
+        address,
+        value,
+        ..
+    } = part
+    {
+        all.retain(|origin| wrote(records, address, offset, value, origin));
     }
 }
 

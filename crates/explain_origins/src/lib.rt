@@ -7,6 +7,7 @@
 //! `OriginsText` is their text, which `specs/Text` says exactly.
 #![tactic(auto)]
 
+mod changes;
 mod events;
 mod freed;
 mod further;
@@ -25,5 +26,6 @@ pub use laws::queues_are_of_the_rules;
 pub use lf_rules::NoMemory;
 pub use origins::{BrokenRule, Origins, origins_of};
 pub use parts::StatePart;
+pub use requests::IssuedRequest;
 pub use standing::{Origin, origins_standing};
 pub use text::OriginsText;

@@ -1,18 +1,21 @@
 //! Which records the state comes from that a rule is about.
 
-ghost use Rattle.std.specs.Prelude.{◌≡◌, ◌<◌, IfOk};
+ghost use Rattle.std.specs.Prelude.{◌≡◌, ◌<◌, [], IfOk};
 ghost use Rattle.lf_rules.specs.InRange.{IsShape};
 ghost use Rattle.explain_origins.specs.Origins.{filled_set, registers, targets_named, queue, evicted_second};
 ghost use Rattle.explain_origins.specs.Origins.{dirty_line, last_store, busy_tag, replied, line1_at, line2_of, part_of};
-ghost use Rattle.explain_origins.specs.Origins.{AreOriginsOfAny, AreOrigins};
+ghost use Rattle.explain_origins.specs.Origins.{dirty_alone, dirt, replied_store, yielded, overtaken, named_request};
+ghost use Rattle.explain_origins.specs.Origins.{steps, origins_in, AreOriginsOfAny, AreOrigins};
+ghost use Rattle.explain_origins.specs.Requests.{none_waits};
 
+use crate::changes::{ByteAt, change_before, last_change};
 use crate::parts::StatePart;
-use crate::requests::{block_at, offset_at};
+use crate::requests::{IssuedRequest, accepted_after, block_at, offset_at};
 use crate::seen::seen_by;
 use crate::standing::{Origin, origins_standing};
 use lf_codec::Packed;
 use lf_levels::{Level, One, Two};
-use lf_rules::{Event, NoMemory, Record, Rule, Shape};
+use lf_rules::{Below, Event, NoMemory, Record, Rule, Shape};
 use std::alloc::Global;
 
 /// A rule that a record breaks.
@@ -126,16 +129,85 @@ fn dirty_line(event: &Event) -> Option<StatePart>
     }
 }
 
-/// The last store to the byte at an address.
+/// The same in a cache by itself, of the line that is to be evicted, cleaned or yielded.
+fn dirty_alone(event: &Event) -> Option<StatePart>
+    ensures { result ≡ dirty_alone event.now }
+{
+    match event {
+        Event::Evict1 { block, .. } | Event::Clean1 { block, .. } | Event::Yield1 { block } => {
+            Some(StatePart::DirtyAlone {
+                block: u64::from(*block),
+            })
+        }
+        _ => None,
+    }
+}
+
+/// What made bytes of the line dirty that the event is about.
+fn dirt(shape: &Shape, event: &Event) -> Option<StatePart>
+    ensures { result ≡ dirt shape.now event.now }
+{
+    match shape.below {
+        Below::LevelTwo => dirty_line(event),
+        Below::Outside => dirty_alone(event),
+    }
+}
+
+/// The last store to the byte at an address, and in a cache by itself its last change.
 fn last_store(shape: &Shape, address: Option<u64>) -> Option<StatePart>
     requires { 0 < shape.now.block }
     ensures { result ≡ last_store shape.now address }
 {
     let address = address?;
-    Some(StatePart::LastStore {
-        block: block_at(shape, address),
-        offset: offset_at(shape, address),
+    let block = block_at(shape, address);
+    let offset = offset_at(shape, address);
+    Some(match shape.below {
+        Below::LevelTwo => StatePart::LastStore { block, offset },
+        Below::Outside => StatePart::LastChange { block, offset },
     })
+}
+
+/// The last store to the byte at an address that a reply has, and in a cache by itself its last change before the
+/// request took effect.
+fn replied_store(shape: &Shape, address: Option<u64>, item: &Record) -> Option<StatePart>
+    requires { 0 < shape.now.block }
+    ensures { result ≡ replied_store shape.now address item.now.log item.now.event }
+{
+    let part = last_store(shape, address)?;
+    match (part, &item.event) {
+        (StatePart::LastChange { block, offset }, Event::Reply { tag, .. }) => {
+            Some(StatePart::ChangeBefore {
+                port: item.log,
+                tag: *tag,
+                block,
+                offset,
+            })
+        }
+        _ => Some(part),
+    }
+}
+
+/// What took the right to write the block at an address.
+fn yielded(shape: &Shape, address: Option<u64>) -> Option<StatePart>
+    requires { 0 < shape.now.block }
+    ensures { result ≡ yielded shape.now address }
+{
+    Some(StatePart::Yielded {
+        block: block_at(shape, address?),
+    })
+}
+
+/// The misses of the port that the request would overtake which a hit accepts.
+fn overtaken(request: Option<IssuedRequest>, event: &Event) -> Option<StatePart>
+    ensures { result ≡ overtaken request event.now }
+{
+    match event {
+        Event::Hit { port, .. } => Some(StatePart::Overtaken {
+            port: *port,
+            request: request?,
+        }),
+        _ => None,
+    }
 }
 
 /// The request with the tag that is issued.
@@ -143,7 +215,7 @@ fn busy_tag(item: &Record) -> Option<StatePart>
     ensures { result ≡ busy_tag item.now.log item.now.event }
 {
     match &item.event {
-        Event::Issue { tag, .. } => Some(StatePart::BusyTag {
+        Event::Issue { tag, .. } | Event::Masked { tag, .. } => Some(StatePart::BusyTag {
             port: item.log,
             tag: *tag,
         }),
@@ -189,10 +261,14 @@ fn line2_of(shape: &Shape, event: &Event) -> Option<StatePart>
     }
 }
 
-/// The part of the state that the rule is about.
-fn part_of(shape: &Shape, broken: BrokenRule<'_>) -> Option<StatePart>
+/// The part of the state that the rule is about, where the record names this request.
+fn part_of(
+    shape: &Shape,
+    broken: BrokenRule<'_>,
+    request: Option<IssuedRequest>,
+) -> Option<StatePart>
     requires { IsShape shape.now }
-    ensures { result ≡ part_of shape.now broken.entry.rule broken.entry.address broken.entry.item.now }
+    ensures { result ≡ part_of shape.now broken.entry.rule broken.entry.address request broken.entry.item.now }
 {
     let BrokenRule {
         rule,
@@ -211,12 +287,63 @@ fn part_of(shape: &Shape, broken: BrokenRule<'_>) -> Option<StatePart>
         Rule::NotOutstanding | Rule::FenceBusy => Some(StatePart::Outstanding { port: item.log }),
         Rule::TagBusy => busy_tag(item),
         Rule::ReplySize => replied(item),
-        Rule::Present => line1_at(shape, address),
+        Rule::Present | Rule::OutsideHeld => line1_at(shape, address),
+        Rule::NotOwned => yielded(shape, address),
+        Rule::Overtakes => overtaken(request, event),
         Rule::SecondPresent => line2_of(shape, event),
         Rule::Inclusion => evicted_second(event),
-        Rule::EvictMask => dirty_line(event),
-        Rule::ReplyData | Rule::FillData | Rule::EvictData => last_store(shape, address),
+        Rule::EvictMask => dirt(shape, event),
+        Rule::ReplyData => replied_store(shape, address, item),
+        Rule::FillData | Rule::EvictData => last_store(shape, address),
         _ => None,
+    }
+}
+
+/// The request that the record accepts, where the rule is about its bytes, after the records at these places.
+fn named_request(
+    alloc: Global,
+    shape: &Shape,
+    records: &Packed,
+    before: &[Option<usize>],
+    broken: BrokenRule<'_>,
+) -> Result<Option<IssuedRequest>, NoMemory>
+    requires { IsShape shape.now }
+    ensures { IfOk result (λ request. request
+        ≡ named_request shape.now records.now.records before.now broken.entry.rule broken.entry.item.now.event) }
+{
+    match broken.rule {
+        Rule::Overtakes => accepted_after(alloc, shape, records, before, &broken.item.event),
+        _ => Ok(None),
+    }
+}
+
+/// The records that this part of the state comes from, of those at the places before.
+fn records_of(
+    alloc: Global,
+    shape: &Shape,
+    records: &Packed,
+    before: &[Option<usize>],
+    part: StatePart,
+) -> Result<Vec<Origin>, NoMemory>
+    requires { IsShape shape.now }
+    ensures { IfOk result (λ all. all.items
+        ≡ origins_in shape.now part (steps shape.now none_waits records.now.records before.now)) }
+{
+    match part {
+        StatePart::LastChange { block, offset } => {
+            let byte = ByteAt { block, offset };
+            last_change(alloc, shape, records, before, byte)
+        }
+        StatePart::ChangeBefore {
+            port,
+            tag,
+            block,
+            offset,
+        } => {
+            let byte = ByteAt { block, offset };
+            change_before(alloc, shape, records, before, byte, port, tag)
+        }
+        _ => origins_standing(alloc, shape, records, before, part),
     }
 }
 
@@ -234,7 +361,7 @@ fn origins_in(
     let Some(part) = part else {
         return Ok(None);
     };
-    let records = origins_standing(alloc, shape, records, before, part)?;
+    let records = records_of(alloc, shape, records, before, part)?;
     Ok(Some(Origins { part, records }))
 }
 
@@ -252,6 +379,7 @@ pub fn origins_of(
     ensures { IfOk result (AreOrigins shape.now records.now.records before.now broken.entry.rule broken.entry.address
         broken.entry.item.now) }
 {
-    let seen = seen_by(records, before, broken.rule, broken.item);
-    origins_in(alloc, shape, records, seen, part_of(shape, broken))
+    let request = named_request(alloc, shape, records, before, broken)?;
+    let seen = seen_by(shape, records, before, broken.rule, broken.item);
+    origins_in(alloc, shape, records, seen, part_of(shape, broken, request))
 }

@@ -1,11 +1,16 @@
 //! The requests that wait at a bank, as their issues ask for them.
 
-ghost use Rattle.std.specs.Prelude.{◌≡◌, ◌<◌, ◌++◌, ◌∷◌, ℕ, [], drop, length, slice_get, IfOk, OnOk};
+ghost use Rattle.std.specs.Prelude.{◌≡◌, ◌<◌, ◌++◌, ◌∷◌, ℕ, List, [], drop, length, slice_get, IfOk, OnOk};
+ghost use Rattle.lf_rules.specs.OuterTable.{masked_request};
+ghost use Rattle.explain_origins.specs.Origins.{accepted_after};
+ghost use Rattle.explain_origins.specs.Requests.{issued_at, none_waits};
 ghost use Rattle.lf_rules.specs.Address.{block_of, offset_of};
 ghost use Rattle.lf_rules.specs.State.{update};
 ghost use Rattle.explain_origins.specs.Requests.{queue_at};
 
-use lf_rules::{Event, NoMemory, Op, Record, Shape};
+use explain_history::{record_at, room};
+use lf_codec::Packed;
+use lf_rules::{Below, Event, Mask, NoMemory, Op, Record, Shape};
 use std::alloc::Global;
 use std::collections::VecDeque;
 use std::marker::Model;
@@ -14,15 +19,17 @@ use std::marker::Model;
 const PORTS: usize = 256;
 
 /// A request, as its issue asks for it.
-#[derive(Clone, Copy)]
-pub(crate) struct IssuedRequest {
+#[derive(Clone, Copy, PartialEq, Eq)]
+pub struct IssuedRequest {
     /// The place of its issue.
     pub place: usize,
     pub block: u64,
-    /// The place of its first byte in the block.
+    /// The place of its first byte in the block, where they stand one behind another.
     pub offset: u32,
     /// How many bytes it reads or writes.
     pub size: u8,
+    /// Which bytes of the block, where they do not stand one behind another from the offset on.
+    pub mask: Option<Mask>,
     pub is_store: bool,
 }
 
@@ -124,6 +131,22 @@ pub(crate) fn offset_at(shape: &Shape, address: u64) -> u32
     (address % u64::from(shape.block)) as u32
 }
 
+/// A request for the bytes under a mask.
+fn masked(place: usize, block: u32, mask: Mask, op: Op) -> IssuedRequest
+    ensures { (tag : ℕ) (bytes : List ℕ) → result ≡ issued_at place (masked_request tag op block mask.0 bytes) }
+{
+    let size = mask.0.count_ones();
+    let in_front = mask == Mask::of(0, size);
+    IssuedRequest {
+        place,
+        block: u64::from(block),
+        offset: 0,
+        size: size as u8,
+        mask: if in_front { None } else { Some(mask) },
+        is_store: matches!(op, Op::Store),
+    }
+}
+
 /// The requests of each port that wait.
 #[derive(Drop)]
 pub(crate) struct Requests {
@@ -183,10 +206,23 @@ impl Requests {
                     block: block_at(shape, *address),
                     offset: offset_at(shape, *address),
                     size: *size,
+                    mask: None,
                     is_store: matches!(op, Op::Store),
                 };
                 enqueue(&mut self.queues, item.log, request)
             }
+            Event::Masked {
+                op,
+                block,
+                mask,
+                ..
+            } => match shape.below {
+                Below::LevelTwo => Ok(()),
+                Below::Outside => {
+                    let request = masked(place, *block, *mask, *op);
+                    enqueue(&mut self.queues, item.log, request)
+                }
+            },
             Event::Hit { port, .. } | Event::Primary { port, .. } | Event::Merge { port, .. } => {
                 drop_head(&mut self.queues, *port);
                 Ok(())
@@ -194,4 +230,30 @@ impl Requests {
             _ => Ok(()),
         }
     }
+}
+
+/// The request that the event accepts after the records at these places.
+pub(crate) fn accepted_after(
+    alloc: Global,
+    shape: &Shape,
+    records: &Packed,
+    places: &[Option<usize>],
+    event: &Event,
+) -> Result<Option<IssuedRequest>, NoMemory>
+    requires { 0 < shape.now.block }
+    ensures { IfOk result (λ request. request
+        ≡ accepted_after shape.now none_waits records.now.records places.now event.now) }
+{
+    let mut requests = Requests::new(alloc)?;
+    let mut room = room();
+    for at in places {
+        let Some(place) = *at else {
+            continue;
+        };
+        let Some(item) = record_at(records, Some(place), &mut room) else {
+            continue;
+        };
+        requests.note(shape, place, item)?;
+    }
+    Ok(requests.accepted_by(event))
 }

@@ -7,7 +7,7 @@ ghost use Rattle.explain_origins.specs.Seen.{accepts, before_last, before_accept
 use crate::events::accepted_tag;
 use explain_history::{record_at, room};
 use lf_codec::Packed;
-use lf_rules::{Event, Record, Rule};
+use lf_rules::{Below, Event, Record, Rule, Shape};
 
 /// Whether the record at the place accepts the port's request with this tag.
 fn accepts(records: &Packed, place: Option<usize>, port: u8, tag: u8) -> bool
@@ -59,15 +59,16 @@ fn before_reply<'a>(
 
 /// The places, of these before, of the records that the rule looks at where this record breaks it.
 pub(crate) fn seen_by<'a>(
+    shape: &Shape,
     records: &Packed,
     before: &'a [Option<usize>],
     rule: Rule,
     item: &Record,
 ) -> &'a [Option<usize>]
-    ensures { result.now ≡ seen_by records.now.records rule item.now before.now }
+    ensures { result.now ≡ seen_by shape.now records.now.records rule item.now before.now }
 {
-    match rule {
-        Rule::ReplyData => before_reply(records, before, item),
+    match (rule, shape.below) {
+        (Rule::ReplyData, Below::LevelTwo) => before_reply(records, before, item),
         _ => before,
     }
 }

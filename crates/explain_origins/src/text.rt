@@ -56,6 +56,15 @@ impl StatePart {
             StatePart::LastOfLevelTwo => "the last event of level two",
             StatePart::LastOfBank => "the last event of the bank",
             StatePart::Unreplied => "the requests without a reply, the oldest first",
+            StatePart::DirtyAlone { .. } =>
+                "the fill of the line, the stores to it and its cleanings",
+            StatePart::Yielded { .. } => "the yield of the line",
+            StatePart::Overtaken { .. } =>
+                "the waiting requests of the port with a byte of the request",
+            StatePart::LastChange { .. } => "the last change of the first byte that differs",
+            StatePart::ChangeBefore { .. } => {
+                "the last change of the first byte that differs before the request took effect"
+            }
         }
     }
 }

@@ -8,7 +8,7 @@ use Rattle.explain_refusal.specs.declared.allowed.Allowed.TheVariants as allowed
 -- what does not depend on the trace
 abbrev pub constant_text : Allowed → List ℕ
 constant_text allowed.Letters = codes "a trace begins with 4c 46 54 53, the letters LFTS"
-constant_text allowed.Versions = codes "it is 1, 2 or 3"
+constant_text allowed.Versions = codes "it is 1, 2, 3 or 4"
 constant_text allowed.OneToSixteen = codes "it is 1 to 16"
 constant_text allowed.BlockSizes = codes "it is 8, 16, 32 or 64"
 constant_text allowed.Factors = codes "it is 1, 2 or 4 in version 3"
@@ -17,6 +17,7 @@ constant_text allowed.NoNumber = codes "a fence has no number, which is spelled 
 constant_text allowed.Ops = codes "it is 0 for a load or 1 for a store"
 constant_text allowed.RequestSizes = codes "it is 1, 2, 4 or 8"
 constant_text allowed.ReplySizes = codes "it is 0, 1, 2, 4 or 8"
+constant_text allowed.KindsAlone = codes "a trace of version 4 has the kinds 1 to 8, 14 and 16 to 20"
 constant_text _ = codes "it is 0"
 
 abbrev pub allowed_text : Allowed → List ℕ
@@ -45,5 +46,8 @@ allowed_text (allowed.AddressBelow limit) =
 allowed_text (allowed.SecondBelow limit) = codes "it is below " ++ decimal limit ++ codes ", which is 2^32 / F"
 allowed_text (allowed.BlockBits block) =
     codes "it has a bit for each of the " ++ decimal block ++ codes " bytes of a block, and no further bits"
+allowed_text (allowed.SomeBlockBit block) =
+    codes "it has a bit for some of the " ++ decimal block ++ codes " bytes of a block, and no further bits"
+allowed_text (allowed.UpToBlock block) = codes "it is at most " ++ decimal block ++ codes ", the bytes of a block"
 allowed_text (allowed.Events count) = codes "the trace has " ++ decimal count ++ codes " event records before it"
 allowed_text sort = constant_text sort

@@ -39,6 +39,7 @@ level_table Two = codes "level2"
 abbrev pub table_of : Key → List ℕ
 table_of (keys.Of level part) = level_table level
 table_of keys.Blocks = level_table Two
+table_of keys.Dirty = level_table One
 table_of _ = []
 
 -- ---- what is asked
@@ -49,16 +50,22 @@ values_of keys.Ports = codes "a whole number from 1 to 16"
 values_of keys.Banks = codes "a whole number from 1 to 16"
 values_of keys.Block = codes "8, 16, 32 or 64, the bytes of a block"
 values_of keys.Tags = codes "a whole number from 1 to 64"
-values_of (keys.Table One) = codes "a table with the keys sets, ways, organisation, registers and entries"
+values_of (keys.Table One) =
+    codes "a table with the keys sets, ways, organisation, registers and entries, and in a cache by itself dirty"
 values_of (keys.Table Two) = codes "a table with the keys sets, ways, organisation, registers, entries and blocks"
 values_of (keys.Of level parts.Sets) = codes "a whole number from 1 to 4096"
 values_of (keys.Of level parts.Ways) = codes "a whole number from 1 to 16"
 values_of (keys.Of level parts.Organisation) = codes "\"implicit\", \"explicit\" or \"inverted\""
 values_of (keys.Of level parts.Registers) =
     codes "a whole number from 1 to 64, which may be absent where the organisation is inverted"
-values_of (keys.Of level parts.Entries) =
+values_of (keys.Of One parts.Entries) =
+    codes "a whole number from 1 to 8, in a cache by itself to 64, "
+    ++ codes "which may be absent where the organisation is not explicit"
+values_of (keys.Of Two parts.Entries) =
     codes "a whole number from 1 to 8, which may be absent where the organisation is not explicit"
 values_of keys.Blocks = codes "1, 2 or 4, the blocks of a second-level block, and 1 where it is absent"
+values_of keys.Below = codes "\"level2\" or \"outside\", and \"level2\" where it is absent"
+values_of keys.Dirty = codes "\"byte\" or, in a cache by itself, \"line\", and \"byte\" where it is absent"
 
 -- what is wrong with a key, what it may be, and where it stands
 abbrev pub key_fault_text : Key → List ℕ → List ℕ → List ℕ
@@ -83,8 +90,9 @@ unknown_name name = if is_of_level name then drop 7 name else name
 
 abbrev pub unknown_text : List ℕ → List ℕ → List ℕ
 unknown_text name text =
-    codes "the keys are ports, banks, block, tags, level1 and level2, of these two "
-    ++ codes "sets, ways, organisation, registers and entries, and of level2 also blocks" ++ 10 ∷ []
+    codes "the keys are ports, banks, block, tags, below, level1 and level2, of these two "
+    ++ codes "sets, ways, organisation, registers and entries, of level1 also dirty, and of level2 also blocks"
+    ++ 10 ∷ []
     ++ place_text (unknown_table name) (unknown_name name) text
 
 -- ---- a text that is no TOML

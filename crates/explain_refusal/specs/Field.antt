@@ -29,6 +29,8 @@ name_of fields.ReplySize = codes "size"
 name_of fields.Block = codes "block"
 name_of fields.SecondBlock = codes "second-level block"
 name_of (fields.Mask k) = codes "mask"
+name_of fields.RequestBlock = codes "block"
+name_of fields.RequestMask = codes "mask"
 name_of (fields.ZeroByte place) = codes "zero"
 name_of (fields.ZeroWord place) = codes "zero"
 
@@ -53,6 +55,8 @@ place_of fields.ReplySize = 9
 place_of fields.Block = 8
 place_of fields.SecondBlock = 8
 place_of (fields.Mask k) = 12 + 8 * k
+place_of fields.RequestBlock = 12
+place_of fields.RequestMask = 16
 place_of (fields.ZeroByte place) = place
 place_of (fields.ZeroWord place) = place
 
@@ -68,6 +72,8 @@ width_of fields.Address = widths.Eight
 width_of fields.Block = widths.Four
 width_of fields.SecondBlock = widths.Four
 width_of (fields.Mask k) = widths.Eight
+width_of fields.RequestBlock = widths.Four
+width_of fields.RequestMask = widths.Eight
 width_of (fields.ZeroWord place) = widths.Two
 width_of _ = widths.One
 
@@ -102,4 +108,5 @@ abbrev pub value_text : Field → List ℕ → List ℕ
 value_text fields.Magic bytes = spaced_bytes (take 4 bytes)
 value_text fields.Address bytes = codes " " ++ hexadecimal (number_of fields.Address bytes)
 value_text (fields.Mask k) bytes = codes " " ++ hexadecimal (number_of (fields.Mask k) bytes)
+value_text fields.RequestMask bytes = codes " " ++ hexadecimal (number_of fields.RequestMask bytes)
 value_text field bytes = codes " " ++ decimal (number_of field bytes)

@@ -6,7 +6,7 @@ use Rattle.lf_rules.specs.Fits.{is_block_size}
 use Rattle.lf_codec.specs.declared.header.Header.{Header}
 use Rattle.lf_codec.specs.declared.fault.CodecCause.{CodecCause}
 use Rattle.lf_codec.specs.declared.fault.CodecCause.TheVariants as causes
-use Rattle.lf_codec.specs.Checks.{byte_at, u32_at, u64_at, last_kind, log_limit, is_of_port, mask_fits}
+use Rattle.lf_codec.specs.Checks.{byte_at, u32_at, u64_at, log_limit, is_of_port, mask_fits}
 use Rattle.explain_refusal.specs.declared.allowed.Allowed.TheVariants as allowed
 use Rattle.explain_refusal.specs.declared.field.Field.{Field}
 use Rattle.explain_refusal.specs.declared.field.Field.TheVariants as fields
@@ -31,7 +31,9 @@ range_finding h =
 -- ---- the head of an event record
 
 abbrev pub kind_finding : Header → Finding
-kind_finding h = found.Field fields.Kind (allowed.Kinds h.version (last_kind h.version))
+kind_finding h =
+    if h.version == 4 then found.Field fields.Kind allowed.KindsAlone
+    else found.Field fields.Kind (allowed.Kinds h.version (12 + h.version))
 
 -- the logs in which a record of this kind may stand
 abbrev pub log_finding : Header → ℕ → Finding
@@ -55,6 +57,7 @@ abbrev pub second_at : Header → ℕ → List ℕ → ℕ
 second_at h kind bytes =
     if kind == 1 then u64_at 12 bytes / h.block / h.factor
     else if kind == 12 || kind == 13 then u32_at 8 bytes
+    else if kind == 16 then u32_at 12 bytes / h.factor
     else u32_at 8 bytes / h.factor
 
 abbrev pub second_of : Header → List ℕ → ℕ
@@ -63,7 +66,8 @@ second_of h bytes = second_at h (byte_at 0 bytes) bytes
 -- the field that says which block an event touches
 abbrev pub block_field : ℕ → Field
 block_field kind =
-    if kind == 1 then fields.Address else if kind == 12 || kind == 13 then fields.SecondBlock else fields.Block
+    if kind == 1 then fields.Address else if kind == 12 || kind == 13 then fields.SecondBlock
+    else if kind == 16 then fields.RequestBlock else fields.Block
 
 -- a bank's log has the records that name the bank
 abbrev pub is_logs_bank : Header → List ℕ → Bool
@@ -115,9 +119,10 @@ reserved_finding _ h bytes = zero_finding bytes
 
 -- ---- the fixed part of an event record
 
-abbrev pub size_finding : ℕ → Finding
-size_finding kind =
+abbrev pub size_finding : Header → ℕ → Finding
+size_finding h kind =
     if kind == 1 then found.Field fields.RequestSize allowed.RequestSizes
+    else if h.version == 4 then found.Field fields.ReplySize (allowed.UpToBlock h.block)
     else found.Field fields.ReplySize allowed.ReplySizes
 
 -- the mask of this place has no bit beyond a block
@@ -128,10 +133,16 @@ fits_block h bytes place = mask_fits h.block (u64_at (12 + 8 * place) bytes)
 abbrev pub wide_mask : Header → List ℕ → ℕ
 wide_mask h bytes = prefix_len (fits_block h bytes) (range_with_len 0 h.factor)
 
+abbrev pub mask_finding_of : Header → ℕ → List ℕ → Finding
+mask_finding_of h kind bytes =
+    if kind == 13 then found.Field (fields.Mask (wide_mask h bytes)) (allowed.BlockBits h.block)
+    else if kind == 16 then found.Field fields.RequestMask (allowed.SomeBlockBit h.block)
+    else if kind == 20 then found.Field (fields.Mask 0) (allowed.SomeBlockBit h.block)
+    else found.Field (fields.Mask 0) (allowed.BlockBits h.block)
+
+-- a mask that has a bit beyond a block, or none where some byte is asked for or written
 abbrev pub mask_finding : Header → List ℕ → Finding
-mask_finding h bytes =
-    let place = if byte_at 0 bytes == 13 then wide_mask h bytes else 0 in
-    found.Field (fields.Mask place) (allowed.BlockBits h.block)
+mask_finding h bytes = mask_finding_of h (byte_at 0 bytes) bytes
 
 -- ---- each cause
 
@@ -149,7 +160,7 @@ finding_of causes.BankRange part h bytes block count = bank_finding h (byte_at 0
 finding_of causes.WrongBank part h bytes block count = owner_finding h bytes
 finding_of causes.Reserved part h bytes block count = reserved_finding part h bytes
 finding_of causes.Op part h bytes block count = found.Field fields.Op allowed.Ops
-finding_of causes.Size part h bytes block count = size_finding (byte_at 0 bytes)
+finding_of causes.Size part h bytes block count = size_finding h (byte_at 0 bytes)
 finding_of causes.Alignment part h bytes block count =
     found.Field fields.Address (allowed.MultipleOf (byte_at 10 bytes))
 finding_of causes.BlockRange part h bytes block count = block_finding h (byte_at 0 bytes)

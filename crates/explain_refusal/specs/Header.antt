@@ -1,5 +1,7 @@
 -- The text of a header that another hierarchy wrote.
-use Rattle.std.specs.Prelude.{ℕ, ◌==◌, List, [], ◌∷◌, ◌++◌, codes, if◌then◌else◌}
+use Rattle.std.specs.Prelude.{ℕ, ◌==◌, Bool, not, List, [], ◌∷◌, ◌++◌, codes, if◌then◌else◌}
+use Rattle.lf_rules.specs.declared.shape.Below.{Below}
+use Rattle.lf_rules.specs.declared.shape.Below.TheVariants.{LevelTwo, Outside}
 use Rattle.std.specs.Fmt.{decimal}
 use Rattle.lf_codec.specs.declared.header.Header.{Header}
 use Rattle.lf_rules.specs.declared.shape.Shape.{Shape}
@@ -41,6 +43,24 @@ number_line number h shape =
     if traced_of number h == configured_of number shape then []
     else differing_line (word_of number) (key_of number) (traced_of number h) (configured_of number shape)
 
+-- what is below level one
+abbrev pub below_name : Below → List ℕ
+below_name LevelTwo = codes "level2"
+below_name Outside = codes "outside"
+
+-- are traces of this version of this? Version 4 is that of a cache by itself.
+abbrev pub has_below : ℕ → Below → Bool
+has_below version LevelTwo = not (version == 4)
+has_below version Outside = version == 4
+
+-- where the version is that of another kind of hierarchy
+unfoldable pub below_line : ℕ → Below → List ℕ
+below_line version below =
+    if has_below version below then []
+    else codes "the header of the trace says version=" ++ decimal version ++ codes ", the configuration says below="
+    ++ below_name below ++ 10 ∷ []
+
 abbrev pub header_text : Header → Shape → List ℕ
 header_text h shape =
     number_line Ports h shape ++ number_line Banks h shape ++ number_line Block h shape ++ number_line Factor h shape
+    ++ below_line h.version shape.below

@@ -29,7 +29,7 @@ part_name parts.End = codes "end record"
 -- the last step of an event record that these bytes come to; a kind that there is not has a head alone
 abbrev pub step_of : Header → List ℕ → Step
 step_of h bytes =
-    if nat_lt (length bytes) 8 || nat_lt 15 (byte_at 0 bytes) then steps.Head
+    if nat_lt (length bytes) 8 || nat_lt 20 (byte_at 0 bytes) then steps.Head
     else if nat_lt (length bytes) (8 + fixed_len h (kind_at (byte_at 0 bytes))) then steps.Fixed
     else steps.Data
 

@@ -21,6 +21,8 @@ pub enum Allowed {
     /// Above the block of the memory record before.
     AboveBlock { block: u32 },
     Kinds { version: u16, last: u32 },
+    /// The kinds of a cache by itself.
+    KindsAlone,
     /// The logs of ports, for a kind that stands there.
     PortLogs { kind: u8, last: u16 },
     /// The logs of banks, for a kind that stands there.
@@ -37,11 +39,15 @@ pub enum Allowed {
     Ops,
     RequestSizes,
     ReplySizes,
+    /// As many bytes as a block has, or fewer.
+    UpToBlock { block: u16 },
     MultipleOf { size: u8 },
     AddressBelow { limit: u64 },
     SecondBelow { limit: u64 },
     /// The bits of the bytes of a block.
     BlockBits { block: u16 },
+    /// The same, and one of them.
+    SomeBlockBit { block: u16 },
     /// The number of event records before the end.
     Events { count: u64 },
 }
@@ -53,7 +59,7 @@ impl Allowed {
     {
         match self {
             Allowed::Letters => "a trace begins with 4c 46 54 53, the letters LFTS",
-            Allowed::Versions => "it is 1, 2 or 3",
+            Allowed::Versions => "it is 1, 2, 3 or 4",
             Allowed::OneToSixteen => "it is 1 to 16",
             Allowed::BlockSizes => "it is 8, 16, 32 or 64",
             Allowed::Factors => "it is 1, 2 or 4 in version 3",
@@ -62,6 +68,7 @@ impl Allowed {
             Allowed::Ops => "it is 0 for a load or 1 for a store",
             Allowed::RequestSizes => "it is 1, 2, 4 or 8",
             Allowed::ReplySizes => "it is 0, 1, 2, 4 or 8",
+            Allowed::KindsAlone => "a trace of version 4 has the kinds 1 to 8, 14 and 16 to 20",
             _ => "it is 0",
         }
     }
@@ -130,6 +137,15 @@ impl fmt::Display for Allowed {
                     f,
                     "it has a bit for each of the {block} bytes of a block, and no further bits"
                 )
+            }
+            Allowed::SomeBlockBit { block } => {
+                write!(
+                    f,
+                    "it has a bit for some of the {block} bytes of a block, and no further bits"
+                )
+            }
+            Allowed::UpToBlock { block } => {
+                write!(f, "it is at most {block}, the bytes of a block")
             }
             Allowed::Events { count } => write!(f, "the trace has {count} event records before it"),
             _ => {

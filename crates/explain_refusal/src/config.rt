@@ -80,6 +80,7 @@ fn table_of(key: Key) -> &'static str
     match key {
         Key::Of(level, _) => level_table(level),
         Key::Blocks => level_table(LevelKey::Two),
+        Key::Dirty => level_table(LevelKey::One),
         _ => "",
     }
 }
@@ -101,6 +102,8 @@ fn key_name(key: Key) -> &'static str
         Key::Of(_, Part::Registers) => "registers",
         Key::Of(_, Part::Entries) => "entries",
         Key::Blocks => "blocks",
+        Key::Below => "below",
+        Key::Dirty => "dirty",
     }
 }
 
@@ -113,7 +116,7 @@ fn values_of(key: Key) -> &'static str
         Key::Block => "8, 16, 32 or 64, the bytes of a block",
         Key::Tags => "a whole number from 1 to 64",
         Key::Table(LevelKey::One) => {
-            "a table with the keys sets, ways, organisation, registers and entries"
+            "a table with the keys sets, ways, organisation, registers and entries, and in a cache by itself dirty"
         }
         Key::Table(LevelKey::Two) => {
             "a table with the keys sets, ways, organisation, registers, entries and blocks"
@@ -123,10 +126,17 @@ fn values_of(key: Key) -> &'static str
         Key::Of(_, Part::Registers) => {
             "a whole number from 1 to 64, which may be absent where the organisation is inverted"
         }
-        Key::Of(_, Part::Entries) => {
+        Key::Of(LevelKey::One, Part::Entries) => {
+            "a whole number from 1 to 8, in a cache by itself to 64, \
+            which may be absent where the organisation is not explicit"
+        }
+        Key::Of(LevelKey::Two, Part::Entries) => {
             "a whole number from 1 to 8, which may be absent where the organisation is not explicit"
         }
         Key::Blocks => "1, 2 or 4, the blocks of a second-level block, and 1 where it is absent",
+        Key::Below => "\"level2\" or \"outside\", and \"level2\" where it is absent",
+        Key::Dirty =>
+            "\"byte\" or, in a cache by itself, \"line\", and \"byte\" where it is absent",
     }
 }
 
@@ -190,8 +200,9 @@ impl fmt::Display for UnknownKey<'_> {
             text: self.text,
             place: place_of(self.name),
         };
-        f.write_str("the keys are ports, banks, block, tags, level1 and level2, of these two ")?;
-        f.write_str("sets, ways, organisation, registers and entries, and of level2 also blocks")?;
+        f.write_str("the keys are ports, banks, block, tags, below, level1 and level2, of these ")?;
+        f.write_str("two sets, ways, organisation, registers and entries, of level1 also dirty, ")?;
+        f.write_str("and of level2 also blocks")?;
         write!(f, "\n{line}")
     }
 }

@@ -37,6 +37,10 @@ pub enum Field {
     SecondBlock,
     /// The mask of this place among those of an eviction.
     Mask(u16),
+    /// The block of a masked request.
+    RequestBlock,
+    /// The mask of a masked request.
+    RequestMask,
     /// One byte at this place, that has to be zero.
     ZeroByte(u8),
     /// Two bytes from this place on, that have to be zero.
@@ -91,7 +95,7 @@ impl Field {
             Field::Banks => "banks",
             Field::BlockBytes => "block bytes",
             Field::Factor => "F",
-            Field::MemoryBlock | Field::Block => "block",
+            Field::MemoryBlock | Field::Block | Field::RequestBlock => "block",
             Field::Kind => "kind",
             Field::Log => "log",
             Field::Bank => "bank",
@@ -101,7 +105,7 @@ impl Field {
             Field::RequestSize | Field::ReplySize => "size",
             Field::Address => "address",
             Field::SecondBlock => "second-level block",
-            Field::Mask(_) => "mask",
+            Field::Mask(_) | Field::RequestMask => "mask",
             Field::ZeroByte(_) | Field::ZeroWord(_) => "zero",
         }
     }
@@ -121,7 +125,8 @@ impl Field {
             Field::BlockBytes | Field::Op | Field::Block | Field::SecondBlock => 8,
             Field::ReplySize => 9,
             Field::Factor | Field::RequestSize => 10,
-            Field::Address => 12,
+            Field::Address | Field::RequestBlock => 12,
+            Field::RequestMask => 16,
             Field::Mask(k) => 12 + 8 * usize::from(k),
             Field::ZeroByte(place) | Field::ZeroWord(place) => usize::from(place),
         }
@@ -133,8 +138,8 @@ impl Field {
         match self {
             Field::Version | Field::BlockBytes | Field::Factor | Field::ZeroWord(_) => Width::Two,
             Field::Magic | Field::MemoryBlock | Field::Number | Field::Count => Width::Four,
-            Field::Block | Field::SecondBlock => Width::Four,
-            Field::Address | Field::Mask(_) => Width::Eight,
+            Field::Block | Field::SecondBlock | Field::RequestBlock => Width::Four,
+            Field::Address | Field::Mask(_) | Field::RequestMask => Width::Eight,
             _ => Width::One,
         }
     }
@@ -181,7 +186,7 @@ impl fmt::Display for FieldValue<'_> {
                 let letters = SpacedBytes(up_to(self.bytes, 4));
                 write!(f, "{letters}")
             }
-            Field::Address | Field::Mask(_) => {
+            Field::Address | Field::Mask(_) | Field::RequestMask => {
                 let number = Hexadecimal(number);
                 write!(f, " {number}")
             }

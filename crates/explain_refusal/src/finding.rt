@@ -67,7 +67,7 @@ fn range_finding(header: &Header) -> Finding
 fn is_of_port(kind: u8) -> bool
     ensures { result ≡ is_of_port kind }
 {
-    kind <= 2 || kind == 14
+    kind <= 2 || kind == 14 || kind == 16
 }
 
 /// The logs in which a record of this kind may stand.
@@ -113,6 +113,7 @@ fn second_of(header: &Header, bytes: &[u8]) -> u64
     match byte_at(bytes, 0) {
         1 => quotient(quotient(u64_at(bytes, 12), u64::from(header.block)), factor),
         12 | 13 => u64::from(u32_at(bytes, 8)),
+        16 => quotient(u64::from(u32_at(bytes, 12)), factor),
         _ => quotient(u64::from(u32_at(bytes, 8)), factor),
     }
 }
@@ -124,6 +125,7 @@ fn block_field(kind: u8) -> Field
     match kind {
         1 => Field::Address,
         12 | 13 => Field::SecondBlock,
+        16 => Field::RequestBlock,
         _ => Field::Block,
     }
 }
@@ -213,11 +215,14 @@ fn reserved_finding(part: Part, header: &Header, bytes: &[u8]) -> Finding
     }
 }
 
-fn size_finding(kind: u8) -> Finding
-    ensures { result ≡ size_finding kind }
+fn size_finding(header: &Header, kind: u8) -> Finding
+    ensures { result ≡ size_finding header.now kind }
 {
     if kind == 1 {
         Finding::Field(Field::RequestSize, Allowed::RequestSizes)
+    } else if header.version == 4 {
+        let block = header.block;
+        Finding::Field(Field::ReplySize, Allowed::UpToBlock { block })
     } else {
         Finding::Field(Field::ReplySize, Allowed::ReplySizes)
     }
@@ -256,23 +261,29 @@ fn wide_mask(header: &Header, bytes: &[u8]) -> u16
     header.factor
 }
 
-/// The mask that has a bit beyond a block.
+/// The mask that has a bit beyond a block, or none where some byte is asked for or written.
 fn mask_finding(header: &Header, bytes: &[u8]) -> Finding
     ensures { result ≡ mask_finding header.now bytes.now }
 {
-    let place = if byte_at(bytes, 0) == 13 {
-        wide_mask(header, bytes)
-    } else {
-        0
-    };
     let block = header.block;
-    Finding::Field(Field::Mask(place), Allowed::BlockBits { block })
+    match byte_at(bytes, 0) {
+        13 => Finding::Field(
+            Field::Mask(wide_mask(header, bytes)),
+            Allowed::BlockBits { block },
+        ),
+        16 => Finding::Field(Field::RequestMask, Allowed::SomeBlockBit { block }),
+        20 => Finding::Field(Field::Mask(0), Allowed::SomeBlockBit { block }),
+        _ => Finding::Field(Field::Mask(0), Allowed::BlockBits { block }),
+    }
 }
 
 fn kind_finding(header: &Header) -> Finding
     ensures { result ≡ kind_finding header.now }
 {
     let version = header.version;
+    if version == 4 {
+        return Finding::Field(Field::Kind, Allowed::KindsAlone);
+    }
     let last = u32::from(version) + 12;
     Finding::Field(Field::Kind, Allowed::Kinds { version, last })
 }
@@ -308,7 +319,7 @@ impl Place<'_> {
             CodecCause::WrongBank => owner_finding(header, bytes),
             CodecCause::Reserved => reserved_finding(self.part, header, bytes),
             CodecCause::Op => Finding::Field(Field::Op, Allowed::Ops),
-            CodecCause::Size => size_finding(kind),
+            CodecCause::Size => size_finding(header, kind),
             CodecCause::Alignment => {
                 let size = byte_at(bytes, 10);
                 Finding::Field(Field::Address, Allowed::MultipleOf { size })

@@ -2,10 +2,10 @@
 
 ghost use Rattle.std.specs.Prelude.{◌≡◌, Some};
 ghost use Rattle.explain_refusal.specs.Header.{word_of, key_of, traced_of, configured_of};
-ghost use Rattle.explain_refusal.specs.Header.{differing_line, number_line, header_text};
+ghost use Rattle.explain_refusal.specs.Header.{differing_line, number_line, below_name, has_below, below_line, header_text};
 
 use lf_codec::Header;
-use lf_rules::Shape;
+use lf_rules::{Below, Shape};
 use std::fmt;
 
 /// A number that the header of a trace and the configuration both say.
@@ -121,8 +121,53 @@ impl fmt::Display for NumberLine<'_> {
     }
 }
 
+/// The line of what is below level one, which the version of the trace says. It is empty where the configuration says
+/// the same.
+#[derive(Clone, Copy)]
+struct BelowLine {
+    version: u16,
+    below: Below,
+}
+
+/// The text of the key.
+fn below_name(below: Below) -> &'static str
+    ensures { result.now ≡ below_name below }
+{
+    match below {
+        Below::LevelTwo => "level2",
+        Below::Outside => "outside",
+    }
+}
+
+/// Whether traces of this version are of this.
+fn has_below(version: u16, below: Below) -> bool
+    ensures { result ≡ has_below version below }
+{
+    match below {
+        Below::LevelTwo => version != 4,
+        Below::Outside => version == 4,
+    }
+}
+
+impl fmt::Display for BelowLine {
+    ghost output = { λ line. Some (below_line line.version line.below) };
+
+    #[tactic(auto, unfolding(crate::specs::Header::below_line))]
+    fn fmt<W: fmt::Write>(&self, f: &mut fmt::Formatter<W>) -> fmt::Result {
+        let BelowLine { version, below } = *self;
+        if has_below(version, below) {
+            return Ok(());
+        }
+        let name = below_name(below);
+        write!(
+            f,
+            "the header of the trace says version={version}, the configuration says below={name}\n"
+        )
+    }
+}
+
 /// Why a trace is not one of the configured hierarchy. Its text has a line, with its newline, for each number of the
-/// header that is not the configuration's.
+/// header that is not the configuration's, and for a version of another kind of hierarchy.
 #[derive(Clone, Copy)]
 pub struct HeaderRefusal {
     pub header: Header,
@@ -151,6 +196,10 @@ impl fmt::Display for HeaderRefusal {
             number: HeaderNumber::Factor,
             ..ports
         };
-        write!(f, "{ports}{banks}{block}{factor}")
+        let below = BelowLine {
+            version: header.version,
+            below: shape.below,
+        };
+        write!(f, "{ports}{banks}{block}{factor}{below}")
     }
 }

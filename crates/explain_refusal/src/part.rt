@@ -66,10 +66,11 @@ fn fixed_len(header: &Header, kind: u8) -> u64
     ensures few { result < 2 ^ 20 }
 {
     match kind {
-        1 | 8 => 12,
-        2..=7 | 9 | 11 | 12 => 4,
+        1 | 8 | 18 | 20 => 12,
+        2..=7 | 9 | 11 | 12 | 17 | 19 => 4,
         13 => 4 + 8 * u64::from(header.factor),
         14 => 0,
+        16 => 16,
         _ => 8,
     }
 }
@@ -106,9 +107,11 @@ fn data_len(header: &Header, kind: u8, fixed: &[u8]) -> u64
         1 => u64::from(byte_at(fixed, 2)),
         2 => u64::from(byte_at(fixed, 1)),
         7 => u64::from(header.block),
-        8 => ones(u64_at(fixed, 4)),
+        8 | 18 | 20 => ones(u64_at(fixed, 4)),
         12 => u64::from(header.factor) * u64::from(header.block),
         13 => masks_len(header.factor, behind(fixed, 4)),
+        16 if byte_at(fixed, 0) == 0 => 0,
+        16 => ones(u64_at(fixed, 8)),
         _ => 0,
     }
 }
@@ -128,7 +131,7 @@ impl Step {
     {
         let kind = byte_at(bytes, 0);
         let there = bytes.len() as u64;
-        if there < 8 || 15 < kind {
+        if there < 8 || 20 < kind {
             Step::Head
         } else if there < 8 + fixed_len(header, kind) {
             Step::Fixed

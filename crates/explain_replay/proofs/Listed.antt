@@ -10,7 +10,8 @@ use Rattle.lf_rules.specs.declared.shape.Shape.{Shape}
 use Rattle.lf_rules.specs.declared.event.Record.{Record}
 use Rattle.lf_rules.specs.declared.rule.Rule.{Rule}
 use Rattle.lf_rules.specs.State.{Local, Ready}
-use Rattle.lf_rules.specs.Table.{OfBank, bank_effect, is_ready_for, first_ready}
+use Rattle.lf_rules.specs.Step.{step_effect}
+use Rattle.lf_rules.specs.Table.{OfBank, is_ready_for, first_ready}
 use Rattle.lf_rules.specs.Run.{BreaksAt}
 use Rattle.explain_history.specs.BankOrder.{records_at}
 use Rattle.explain_history.specs.Touching.{record_at}
@@ -77,7 +78,7 @@ pub breaks_longer : (shape : Shape) (now : Local) (xs : List Record) (r : Record
 breaks_longer shape now [] r rest rule breaks = breaks
 breaks_longer shape now (x ∷ xs) r rest rule breaks = (
   breaks.0,
-  breaks_longer shape (bank_effect shape now x) xs r
+  breaks_longer shape (step_effect shape now x) xs r
       rest rule breaks.1,
 )
 

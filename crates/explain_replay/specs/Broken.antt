@@ -8,6 +8,7 @@ use Rattle.lf_rules.specs.Outcomes.{first_local}
 use Rattle.lf_rules.specs.Run.{IsRunOf, BreaksAt}
 use Rattle.lf_rules.specs.State.{Local}
 use Rattle.lf_rules.specs.Table.{OfBank}
+use Rattle.explain_history.specs.declared.request.Asked.{Asked}
 use Rattle.lf_replay.specs.Step.{bank_after}
 use Rattle.explain_replay.specs.declared.broken.Broken.{Broken}
 use Rattle.explain_replay.specs.Expected.{IsExpected}
@@ -15,9 +16,9 @@ use Rattle.explain_replay.specs.Addresses.{addresses_of, due_addresses}
 use Rattle.explain_replay.specs.Named.{blocks_of, AreNamed}
 use Rattle.explain_replay.specs.Request.{requested}
 
--- This is told of a record that breaks a rule in this state, where its request is at this address: what the rule asks
+-- This is told of a record that breaks a rule in this state, where its request asks for this: what the rule asks
 -- of it, the addresses of its bytes and of those that it has to carry, and what the state has of its blocks.
-pub record IsTold (broken : Broken) (first : Rule) (request : Option ℕ) (r : Record) (shape : Shape) (now : Local)
+pub record IsTold (broken : Broken) (first : Rule) (request : Option Asked) (r : Record) (shape : Shape) (now : Local)
     : Type 0 where
   pub number : broken.number ≡ r.number
   pub rule : broken.rule ≡ first

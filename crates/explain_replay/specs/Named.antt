@@ -5,13 +5,16 @@ use Rattle.lf_rules.specs.declared.shape.Shape.{Shape}
 use Rattle.lf_rules.specs.declared.event.Event.{Event}
 use Rattle.lf_rules.specs.declared.event.Event.TheVariants.{Fill1, Evict1, Fill2, Evict2}
 use Rattle.lf_rules.specs.declared.event.Event.TheVariants.{SecondHit, SecondPrimary, SecondMerge, SecondStall}
-use Rattle.lf_rules.specs.Address.{block_of, places, sub_block}
+use Rattle.lf_rules.specs.declared.event.Event.TheVariants.{Grant, Clean1, Yield1, Outside}
+use Rattle.lf_rules.specs.Address.{places, sub_block}
 use Rattle.lf_rules.specs.State.{Local}
 use Rattle.lf_replay.specs.Looks.{IsBlockState}
+use Rattle.explain_history.specs.declared.request.Asked.{Asked}
+use Rattle.explain_history.specs.Request.{block_asked}
 use Rattle.explain_replay.specs.declared.named.NamedBlock.{NamedBlock}
 
--- the blocks that an event names: its own, those of its second-level block, or that of the request at this address
-abbrev pub blocks_of : Shape → Option ℕ → Event → List ℕ
+-- the blocks that an event names: its own, those of its second-level block, or that of its request
+abbrev pub blocks_of : Shape → Option Asked → Event → List ℕ
 blocks_of shape request (Fill1 block bytes) = block ∷ []
 blocks_of shape request (Evict1 block mask bytes) = block ∷ []
 blocks_of shape request (SecondHit block) = block ∷ []
@@ -20,7 +23,11 @@ blocks_of shape request (SecondMerge block register) = block ∷ []
 blocks_of shape request (SecondStall block) = block ∷ []
 blocks_of shape request (Fill2 second bytes) = map (sub_block shape second) (places shape)
 blocks_of shape request (Evict2 second masks bytes) = map (sub_block shape second) (places shape)
-blocks_of shape request _ = option_to_list (option_map (block_of shape) request)
+blocks_of shape request (Grant block) = block ∷ []
+blocks_of shape request (Clean1 block mask bytes) = block ∷ []
+blocks_of shape request (Yield1 block) = block ∷ []
+blocks_of shape request (Outside block mask bytes) = block ∷ []
+blocks_of shape request _ = option_to_list (option_map (block_asked shape) request)
 
 -- It tells where a block lies and what the state has of it.
 pub record IsNamed (shape : Shape) (now : Local) (named : NamedBlock) : Type 0 where

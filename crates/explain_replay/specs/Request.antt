@@ -2,9 +2,11 @@
 use Rattle.std.specs.Prelude.{ℕ, Bool, false, ◌&&◌, ◌==◌, List, [], ◌∷◌, ◌++◌, drop, fold, Option, Some, None}
 use Rattle.std.specs.Prelude.{option_to_list, if◌then◌else◌}
 use Rattle.lf_rules.specs.declared.event.Event.{Event}
-use Rattle.lf_rules.specs.declared.event.Event.TheVariants.{Issue, Reply, Hit, Primary, Merge, Stall}
+use Rattle.lf_rules.specs.declared.event.Event.TheVariants.{Issue, Reply, Hit, Primary, Merge, Stall, Masked}
 use Rattle.lf_rules.specs.declared.event.Record.{Record}
-use Rattle.explain_history.specs.Request.{address_by, last_address}
+use Rattle.explain_history.specs.declared.request.Asked.{Asked}
+use Rattle.explain_history.specs.declared.request.Asked.TheVariants.{From, Under}
+use Rattle.explain_history.specs.Request.{request_by, last_request}
 
 -- does the event accept a request of the port with this tag?
 abbrev pub accepts : ℕ → ℕ → Event → Bool
@@ -17,31 +19,32 @@ abbrev pub accepts_at : ℕ → ℕ → Option Record → Bool
 accepts_at port tag None = false
 accepts_at port tag (Some r) = accepts port tag r.event
 
--- the addresses of the port's requests with this tag that wait, after one more record: the oldest is accepted
-abbrev pub waits_after : ℕ → ℕ → List ℕ → Record → List ℕ
+-- what the port's requests with this tag ask for that wait, after one more record: the oldest is accepted
+abbrev pub waits_after : ℕ → ℕ → List Asked → Record → List Asked
 waits_after port tag waiting r =
     if accepts port tag r.event then drop 1 waiting
-    else waiting ++ option_to_list (address_by port tag r.log r.event None)
+    else waiting ++ option_to_list (request_by port tag r.log r.event None)
 
--- the addresses of those that wait after these records, the oldest first
-abbrev pub waiting : List Record → ℕ → ℕ → List ℕ
+-- the same of those that wait after these records, the oldest first
+abbrev pub waiting : List Record → ℕ → ℕ → List Asked
 waiting before port tag = fold (waits_after port tag) [] before
 
--- that of the oldest, and where none waits this one
-abbrev pub first_or : List ℕ → Option ℕ → Option ℕ
+-- what the oldest asks for, and where none waits this
+abbrev pub first_or : List Asked → Option Asked → Option Asked
 first_or [] last = last
-first_or (address ∷ waiting) last = Some address
+first_or (asked ∷ waiting) last = Some asked
 
--- the address of the request of the port with this tag: of the oldest one that waits, and where none does of the last
-abbrev pub request_address : List Record → ℕ → ℕ → Option ℕ
-request_address before port tag = first_or (waiting before port tag) (last_address before port tag)
+-- what the request of the port with this tag asks for: the oldest one that waits, and where none does the last
+abbrev pub request_asked : List Record → ℕ → ℕ → Option Asked
+request_asked before port tag = first_or (waiting before port tag) (last_request before port tag)
 
--- the address of the request that an event of a log is or names, after these records
-abbrev pub requested : List Record → ℕ → Event → Option ℕ
-requested before log (Issue op tag size address bytes) = Some address
-requested before log (Reply tag size bytes) = last_address before log tag
-requested before log (Hit port tag) = request_address before port tag
-requested before log (Primary port tag register) = request_address before port tag
-requested before log (Merge port tag register) = request_address before port tag
-requested before log (Stall port tag) = request_address before port tag
+-- what the request asks for that an event of a log is or names, after these records
+abbrev pub requested : List Record → ℕ → Event → Option Asked
+requested before log (Issue op tag size address bytes) = Some (From address)
+requested before log (Masked op tag block mask bytes) = Some (Under block mask)
+requested before log (Reply tag size bytes) = last_request before log tag
+requested before log (Hit port tag) = request_asked before port tag
+requested before log (Primary port tag register) = request_asked before port tag
+requested before log (Merge port tag register) = request_asked before port tag
+requested before log (Stall port tag) = request_asked before port tag
 requested before log _ = None

@@ -6,13 +6,15 @@ ghost use Rattle.std.specs.List.{range_with_len};
 ghost use Rattle.lf_rules.specs.Address.{mask_at, sub_block};
 ghost use Rattle.lf_rules.specs.Fits.{Fits};
 ghost use Rattle.lf_rules.specs.InRange.{IsShape};
-ghost use Rattle.explain_replay.specs.Addresses.{addresses_from, addresses_of, masked_addresses, wide_addresses};
+ghost use Rattle.explain_history.specs.Request.{block_asked};
+ghost use Rattle.explain_replay.specs.Addresses.{reply_addresses, addresses_of, masked_addresses, wide_addresses};
 ghost use Rattle.explain_replay.specs.Addresses.{due_addresses};
 
 use crate::carried::is_under;
 use crate::expected::Expected;
 use arrayvec::ArrayVec;
 use bank_state::sub_block;
+use explain_history::Asked;
 use lf_rules::{Event, Mask, Masks, NoMemory, Record, Shape, mask_at};
 use std::alloc::Global;
 
@@ -83,32 +85,42 @@ fn wide_addresses(
     Ok(all)
 }
 
-/// The addresses of so many bytes of a reply, where its request is at this address.
-fn reply_addresses(alloc: Global, request: Option<u64>, count: usize) -> Result<Vec<u64>, NoMemory>
+/// The addresses of so many bytes of a reply to the request.
+fn reply_addresses(
+    alloc: Global,
+    shape: &Shape,
+    request: Option<Asked>,
+    count: usize,
+) -> Result<Vec<u64>, NoMemory>
+    requires in_range { IsShape shape.now }
     requires small { count < 65 }
-    requires fits { ForSome request (λ address. address < 2 ^ 63) }
-    ensures { IfOk result (λ addresses. addresses.items ≡ addresses_from request count) }
+    requires fits { ForSome request (λ asked. block_asked shape.now asked < 0x1_0000_0000) }
+    ensures { IfOk result (λ addresses. addresses.items ≡ reply_addresses shape.now request count) }
 {
     match request {
-        Some(address) => consecutive(alloc, address, count),
+        Some(Asked::From { address }) => consecutive(alloc, address, count),
+        Some(Asked::Under { block, mask }) => {
+            let addresses = masked_addresses(shape, block, mask);
+            Ok(Vec::from_slice(alloc, &addresses)?)
+        }
         None => Ok(Vec::new(alloc)),
     }
 }
 
-/// The addresses of the bytes that a reply, a fill or an eviction carries, where its request is at this address.
+/// The addresses of the bytes that a reply to this request, a fill, a write-back or a write of the outside carries.
 pub(crate) fn addresses_of(
     alloc: Global,
     shape: &Shape,
-    request: Option<u64>,
+    request: Option<Asked>,
     item: &Record,
 ) -> Result<Vec<u64>, NoMemory>
     requires in_range { IsShape shape.now }
     requires fits { Fits shape.now item.now }
-    requires request { ForSome request (λ address. address < 2 ^ 63) }
+    requires request { ForSome request (λ asked. block_asked shape.now asked < 0x1_0000_0000) }
     ensures { IfOk result (λ addresses. addresses.items ≡ addresses_of shape.now request item.now.event) }
 {
     match &item.event {
-        Event::Reply { bytes, .. } => reply_addresses(alloc, request, bytes.len()),
+        Event::Reply { bytes, .. } => reply_addresses(alloc, shape, request, bytes.len()),
         Event::Fill1 { block, bytes } => {
             consecutive(alloc, first_address(shape, *block), bytes.len())
         }
@@ -116,7 +128,9 @@ pub(crate) fn addresses_of(
             let first = sub_block(shape, *block, 0);
             consecutive(alloc, first_address(shape, first), bytes.len())
         }
-        Event::Evict1 { block, mask, .. } => {
+        Event::Evict1 { block, mask, .. }
+        | Event::Clean1 { block, mask, .. }
+        | Event::Outside { block, mask, .. } => {
             let addresses = masked_addresses(shape, *block, *mask);
             Ok(Vec::from_slice(alloc, &addresses)?)
         }
@@ -140,7 +154,7 @@ pub(crate) fn due_addresses(
         return Ok(Vec::new(alloc));
     };
     match &item.event {
-        Event::Evict1 { block, .. } => {
+        Event::Evict1 { block, .. } | Event::Clean1 { block, .. } => {
             let addresses = masked_addresses(shape, *block, Mask(mask_at(due, 0)));
             Ok(Vec::from_slice(alloc, &addresses)?)
         }

@@ -3,11 +3,13 @@
 ghost use Rattle.std.specs.Prelude.{◌≡◌, ◌<◌, IfOk};
 ghost use Rattle.std.specs.Option.{ForSome};
 ghost use Rattle.std.specs.List.{AllByRecursion};
-ghost use Rattle.lf_rules.specs.Address.{block_of, flat_memory};
+ghost use Rattle.lf_rules.specs.Address.{flat_memory};
 ghost use Rattle.lf_rules.specs.Fits.{Fits};
 ghost use Rattle.lf_rules.specs.InRange.{IsShape};
 ghost use Rattle.bank_state.specs.Bytes.{bank_part};
 ghost use Rattle.explain_history.specs.BankOrder.{records_at};
+ghost use Rattle.explain_history.specs.Request.{block_asked};
+ghost use Rattle.lf_replay.specs.AnyView.{shape_of};
 ghost use Rattle.lf_replay.specs.Looks.{OfStep};
 ghost use Rattle.explain_replay.specs.Broken.{IsFirstBroken, IsTold};
 
@@ -15,7 +17,7 @@ use crate::addresses::{addresses_of, due_addresses};
 use crate::expected::{Expected, expected_of};
 use crate::named::{NamedBlock, blocks_of, named_blocks};
 use crate::request::requested;
-use explain_history::{record_at, room};
+use explain_history::{Asked, record_at, room};
 use lf_codec::Packed;
 use lf_replay::{BankFault, Step};
 use lf_rules::{Memory, NoMemory, Record, Rule, Shape};
@@ -30,7 +32,7 @@ pub struct Broken {
     pub rule: Rule,
     /// What the rule asks that it carries, where it is a rule about that.
     pub expected: Option<Expected>,
-    /// The address of each byte that it carries, where it is a reply, a fill or an eviction.
+    /// The address of each byte that it carries, where it is a reply, a fill, a write-back or a write of the outside.
     pub addresses: Vec<u64>,
     /// The address of each byte that it has to carry, where the rule asks for other masks.
     pub due_addresses: Vec<u64>,
@@ -39,20 +41,20 @@ pub struct Broken {
     pub blocks: Vec<NamedBlock>,
 }
 
-/// What is told of the record that breaks the rule, after the records that the step took, where its request is at
-/// this address.
+/// What is told of the record that breaks the rule, after the records that the step took, where its request asks for
+/// this.
 fn told(
     alloc: Global,
     step: &Step,
     shape: &Shape,
     rule: Rule,
-    request: Option<u64>,
+    request: Option<Asked>,
     item: &Record,
 ) -> Result<Broken, NoMemory>
     requires in_range { IsShape shape.now }
-    requires shape { step.now.state.shape ≡ shape.now }
+    requires shape { shape_of step.now.state ≡ shape.now }
     requires fits { Fits shape.now item.now }
-    requires request { ForSome request (λ address. block_of shape.now address < 0x1_0000_0000) }
+    requires request { ForSome request (λ asked. block_asked shape.now asked < 0x1_0000_0000) }
     ensures { IfOk result (λ broken. OfStep step.now (IsTold broken rule request item.now)) }
 {
     let blocks = blocks_of(alloc, shape, request, item)?;

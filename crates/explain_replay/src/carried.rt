@@ -3,6 +3,7 @@
 ghost use Rattle.std.specs.Prelude.{◌≡◌, ◌<◌, ◌≤◌, ◌*◌, ◌/◌, length, slice_index, IfOk};
 ghost use Rattle.lf_rules.specs.Address.{is_under, mask_at, masked, block_bytes, part_at, sub_block, wide_masked};
 ghost use Rattle.lf_rules.specs.InRange.{IsShape};
+ghost use Rattle.lf_replay.specs.AnyView.{shape_of};
 ghost use Rattle.lf_replay.specs.Looks.{OfStep};
 ghost use Rattle.explain_replay.specs.Carried.{judged_or_found, off_mask, filled, wide_filled};
 
@@ -84,7 +85,7 @@ pub(crate) fn evicted(step: &Step, block: u32, mask: Mask) -> Block
 /// What a fill of a second-level block has to carry at the place of a sub-block, where it carries the bytes found.
 fn filled_part(step: &Step, shape: &Shape, second: u32, found: &WideBlock, place: u32) -> Block
     requires in_range { IsShape shape.now }
-    requires shape { step.now.state.shape ≡ shape.now }
+    requires shape { shape_of step.now.state ≡ shape.now }
     requires fits { second < 0x1_0000_0000 / shape.now.factor }
     requires inside { place < shape.now.factor }
     requires whole { length found.now.items ≡ shape.now.factor * shape.now.block }
@@ -99,7 +100,7 @@ fn filled_part(step: &Step, shape: &Shape, second: u32, found: &WideBlock, place
 /// What an eviction of a second-level block has to carry at the place of a sub-block.
 fn evicted_part(step: &Step, shape: &Shape, second: u32, masks: &Masks, place: u32) -> Block
     requires in_range { IsShape shape.now }
-    requires shape { step.now.state.shape ≡ shape.now }
+    requires shape { shape_of step.now.state ≡ shape.now }
     requires fits { second < 0x1_0000_0000 / shape.now.factor }
     requires inside { place < shape.now.factor }
     ensures { OfStep step.now (λ shape now. result.items
@@ -118,7 +119,7 @@ pub(crate) fn wide_filled(
     found: &WideBlock,
 ) -> Result<Vec<u8>, NoMemory>
     requires in_range { IsShape shape.now }
-    requires shape { step.now.state.shape ≡ shape.now }
+    requires shape { shape_of step.now.state ≡ shape.now }
     requires fits { second < 0x1_0000_0000 / shape.now.factor }
     requires whole { length found.now.items ≡ shape.now.factor * shape.now.block }
     ensures { IfOk result (λ bytes. OfStep step.now (λ shape now.
@@ -141,7 +142,7 @@ pub(crate) fn wide_evicted(
     masks: &Masks,
 ) -> Result<Vec<u8>, NoMemory>
     requires in_range { IsShape shape.now }
-    requires shape { step.now.state.shape ≡ shape.now }
+    requires shape { shape_of step.now.state ≡ shape.now }
     requires fits { second < 0x1_0000_0000 / shape.now.factor }
     ensures { IfOk result (λ bytes. OfStep step.now (λ shape now.
         bytes.items ≡ wide_masked shape now.memory second masks.now)) }

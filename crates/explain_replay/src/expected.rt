@@ -7,6 +7,7 @@ ghost use Rattle.lf_rules.specs.InRange.{IsShape};
 ghost use Rattle.lf_rules.specs.Lines.{dirty_mask, dirty_masks};
 ghost use Rattle.lf_rules.specs.State.{Local};
 ghost use Rattle.lf_rules.specs.Table.{destination, first_ready};
+ghost use Rattle.lf_replay.specs.AnyView.{shape_of};
 ghost use Rattle.lf_replay.specs.Looks.{OfStep};
 ghost use Rattle.explain_replay.specs.Expected.{IsExpected, IsExpectedMask, IsWanted};
 
@@ -90,7 +91,7 @@ fn dirty_mask(step: &Step, block: u32) -> Masks
 /// The dirty masks of the second-level block's line in level two, and none where there is none.
 fn dirty_masks(step: &Step, shape: &Shape, second: u32) -> Masks
     requires in_range { IsShape shape.now }
-    requires shape { step.now.state.shape ≡ shape.now }
+    requires shape { shape_of step.now.state ≡ shape.now }
     requires fits { second < 0x1_0000_0000 / shape.now.factor }
     ensures { OfStep step.now (λ _ now. result ≡ dirty_masks now.slice.lines2 second) }
 {
@@ -145,7 +146,7 @@ fn of_fill(
     item: &Record,
 ) -> Result<Option<Expected>, NoMemory>
     requires in_range { IsShape shape.now }
-    requires shape { step.now.state.shape ≡ shape.now }
+    requires shape { shape_of step.now.state ≡ shape.now }
     requires fits { Fits shape.now item.now }
     ensures { IfOk result (λ due. OfStep step.now (IsExpected due rules.FillData item.now.log item.now.event)) }
 {
@@ -165,12 +166,14 @@ fn of_fill(
 /// What `EvictMask` asks.
 fn of_mask(step: &Step, shape: &Shape, item: &Record) -> Option<Expected>
     requires in_range { IsShape shape.now }
-    requires shape { step.now.state.shape ≡ shape.now }
+    requires shape { shape_of step.now.state ≡ shape.now }
     requires fits { Fits shape.now item.now }
     ensures { OfStep step.now (IsExpected result rules.EvictMask item.now.log item.now.event) }
 {
     match &item.event {
-        Event::Evict1 { block, .. } => Some(Expected::Masks(dirty_mask(step, *block))),
+        Event::Evict1 { block, .. } | Event::Clean1 { block, .. } => {
+            Some(Expected::Masks(dirty_mask(step, *block)))
+        }
         Event::Evict2 { block, .. } => Some(Expected::Masks(dirty_masks(step, shape, *block))),
         _ => None,
     }
@@ -184,12 +187,12 @@ fn of_eviction(
     item: &Record,
 ) -> Result<Option<Expected>, NoMemory>
     requires in_range { IsShape shape.now }
-    requires shape { step.now.state.shape ≡ shape.now }
+    requires shape { shape_of step.now.state ≡ shape.now }
     requires fits { Fits shape.now item.now }
     ensures { IfOk result (λ due. OfStep step.now (IsExpected due rules.EvictData item.now.log item.now.event)) }
 {
     match &item.event {
-        Event::Evict1 { block, mask, .. } => {
+        Event::Evict1 { block, mask, .. } | Event::Clean1 { block, mask, .. } => {
             let due = bytes_of(alloc, &evicted(step, *block, *mask))?;
             Ok(Some(Expected::Bytes(due)))
         }
@@ -211,7 +214,7 @@ pub(crate) fn expected_of(
     item: &Record,
 ) -> Result<Option<Expected>, NoMemory>
     requires in_range { IsShape shape.now }
-    requires shape { step.now.state.shape ≡ shape.now }
+    requires shape { shape_of step.now.state ≡ shape.now }
     requires fits { Fits shape.now item.now }
     ensures { IfOk result (λ due. OfStep step.now (IsExpected due rule item.now.log item.now.event)) }
 {

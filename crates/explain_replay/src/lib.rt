@@ -13,4 +13,4 @@ pub use broken::{Broken, first_broken};
 pub use expected::Expected;
 pub use lf_replay::BlockState;
 pub use named::NamedBlock;
-pub use request::request_address;
+pub use request::request_asked;

@@ -2,14 +2,17 @@
 
 ghost use Rattle.std.specs.Prelude.{◌≡◌, ◌*◌, ◌/◌, ◌<◌, map, IfOk};
 ghost use Rattle.std.specs.Option.{ForSome};
-ghost use Rattle.lf_rules.specs.Address.{block_of, places, sub_block};
+ghost use Rattle.explain_history.specs.Request.{block_asked};
+ghost use Rattle.lf_rules.specs.Address.{places, sub_block};
 ghost use Rattle.lf_rules.specs.Fits.{Fits};
 ghost use Rattle.lf_rules.specs.InRange.{IsShape};
+ghost use Rattle.lf_replay.specs.AnyView.{shape_of};
 ghost use Rattle.lf_replay.specs.Looks.{IsBlockState, OfStep};
 ghost use Rattle.explain_replay.specs.Named.{blocks_of, AreNamed};
 
 use crate::addresses::first_address;
 use bank_state::sub_block;
+use explain_history::{Asked, block_asked};
 use lf_replay::{BlockState, Step};
 use lf_rules::{Event, NoMemory, Record, Shape};
 use std::alloc::Global;
@@ -38,26 +41,25 @@ fn sub_blocks(alloc: Global, shape: &Shape, second: u32) -> Result<Vec<u32>, NoM
     Ok(blocks)
 }
 
-/// The block of an address.
-fn block_of(shape: &Shape, address: u64) -> u32
+/// The block of what a request asks for.
+fn block_of(shape: &Shape, asked: Asked) -> u32
     requires in_range { IsShape shape.now }
-    requires fits { block_of shape.now address < 0x1_0000_0000 }
-    ensures { result ≡ block_of shape.now address }
+    requires fits { block_asked shape.now asked < 0x1_0000_0000 }
+    ensures { result ≡ block_asked shape.now asked }
 {
-    (address / u64::from(shape.block)) as u32
+    block_asked(shape, asked) as u32
 }
 
-/// The blocks that the record names: its own, those of its second-level block, or that of the request at this
-/// address.
+/// The blocks that the record names: its own, those of its second-level block, or that of its request.
 pub(crate) fn blocks_of(
     alloc: Global,
     shape: &Shape,
-    request: Option<u64>,
+    request: Option<Asked>,
     item: &Record,
 ) -> Result<Vec<u32>, NoMemory>
     requires in_range { IsShape shape.now }
     requires fits { Fits shape.now item.now }
-    requires request { ForSome request (λ address. block_of shape.now address < 0x1_0000_0000) }
+    requires request { ForSome request (λ asked. block_asked shape.now asked < 0x1_0000_0000) }
     ensures { IfOk result (λ blocks. blocks.items ≡ blocks_of shape.now request item.now.event) }
 {
     match &item.event {
@@ -66,12 +68,16 @@ pub(crate) fn blocks_of(
         | Event::SecondHit { block }
         | Event::SecondPrimary { block, .. }
         | Event::SecondMerge { block, .. }
-        | Event::SecondStall { block } => Ok(Vec::from_slice(alloc, &[*block])?),
+        | Event::SecondStall { block }
+        | Event::Grant { block }
+        | Event::Clean1 { block, .. }
+        | Event::Yield1 { block }
+        | Event::Outside { block, .. } => Ok(Vec::from_slice(alloc, &[*block])?),
         Event::Fill2 { block, .. } | Event::Evict2 { block, .. } => {
             sub_blocks(alloc, shape, *block)
         }
         _ => match request {
-            Some(address) => Ok(Vec::from_slice(alloc, &[block_of(shape, address)])?),
+            Some(asked) => Ok(Vec::from_slice(alloc, &[block_of(shape, asked)])?),
             None => Ok(Vec::new(alloc)),
         },
     }
@@ -97,7 +103,7 @@ pub(crate) fn named_blocks(
     shape: &Shape,
     blocks: &[u32],
 ) -> Result<Vec<NamedBlock>, NoMemory>
-    requires shape { step.now.state.shape ≡ shape.now }
+    requires shape { shape_of step.now.state ≡ shape.now }
     ensures { IfOk result (λ all. OfStep step.now (AreNamed all.items blocks.now)) }
 {
     let mut all = Vec::new(alloc);

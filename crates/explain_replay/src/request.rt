@@ -3,10 +3,10 @@
 ghost use Rattle.std.specs.Prelude.{◌≡◌, [], fold, option_to_list, IfOk, OnOk};
 ghost use Rattle.explain_history.specs.BankOrder.{records_at};
 ghost use Rattle.explain_history.specs.Touching.{record_at};
-ghost use Rattle.explain_replay.specs.Request.{accepts, accepts_at, waits_after, waiting, first_or, request_address};
+ghost use Rattle.explain_replay.specs.Request.{accepts, accepts_at, waits_after, waiting, first_or, request_asked};
 ghost use Rattle.explain_replay.specs.Request.{requested};
 
-use explain_history::{last_address, record_at, room};
+use explain_history::{Asked, last_request, record_at, room};
 use lf_codec::Packed;
 use lf_rules::{Event, NoMemory, Record};
 use std::alloc::Global;
@@ -45,7 +45,7 @@ fn accepts_at(records: &Packed, place: Option<usize>, port: u8, tag: u8) -> bool
 
 /// The record at a place came: what it accepts waits no longer, and what it issues waits.
 fn wait(
-    waiting: &mut VecDeque<u64>,
+    waiting: &mut VecDeque<Asked>,
     records: &Packed,
     place: Option<usize>,
     port: u8,
@@ -58,21 +58,20 @@ fn wait(
         let _ = waiting.pop_front();
         return Ok(());
     }
-    if let Some(address) = last_address(records, &[place], port, tag) {
-        waiting.push_back(address)?;
+    if let Some(asked) = last_request(records, &[place], port, tag) {
+        waiting.push_back(asked)?;
     }
     Ok(())
 }
 
-/// The addresses that the requests of the port with this tag ask for which wait after the records at these places, the
-/// oldest first.
+/// What the requests of the port with this tag ask for that wait after the records at these places, the oldest first.
 fn waiting(
     alloc: Global,
     records: &Packed,
     places: &[Option<usize>],
     port: u8,
     tag: u8,
-) -> Result<VecDeque<u64>, NoMemory>
+) -> Result<VecDeque<Asked>, NoMemory>
     ensures { IfOk result (λ all. all.items ≡ waiting (records_at records.now.records places.now) port tag) }
 {
     let mut all = VecDeque::new(alloc);
@@ -82,42 +81,46 @@ fn waiting(
     Ok(all)
 }
 
-/// The address of the request of the port with this tag, after the records at these places: of the oldest one that
-/// waits, and where none does of the last one.
-pub fn request_address(
+/// What the request of the port with this tag asks for, after the records at these places: the oldest one that waits,
+/// and where none does the last one.
+pub fn request_asked(
     alloc: Global,
     records: &Packed,
     places: &[Option<usize>],
     port: u8,
     tag: u8,
-) -> Result<Option<u64>, NoMemory>
-    ensures { IfOk result (λ address. address
-        ≡ request_address (records_at records.now.records places.now) port tag) }
+) -> Result<Option<Asked>, NoMemory>
+    ensures { IfOk result (λ asked. asked
+        ≡ request_asked (records_at records.now.records places.now) port tag) }
 {
     let waiting = waiting(alloc, records, places, port, tag)?;
     match waiting.front() {
-        Some(address) => Ok(Some(*address)),
-        None => Ok(last_address(records, places, port, tag)),
+        Some(asked) => Ok(Some(*asked)),
+        None => Ok(last_request(records, places, port, tag)),
     }
 }
 
-/// The address of the request that the record is or names, after the records at these places.
+/// What the request asks for that the record is or names, after the records at these places.
 pub(crate) fn requested(
     alloc: Global,
     records: &Packed,
     places: &[Option<usize>],
     item: &Record,
-) -> Result<Option<u64>, NoMemory>
-    ensures { IfOk result (λ address. address
+) -> Result<Option<Asked>, NoMemory>
+    ensures { IfOk result (λ asked. asked
         ≡ requested (records_at records.now.records places.now) item.now.log item.now.event) }
 {
     match &item.event {
-        Event::Issue { address, .. } => Ok(Some(*address)),
-        Event::Reply { tag, .. } => Ok(last_address(records, places, item.log, *tag)),
+        Event::Issue { address, .. } => Ok(Some(Asked::From { address: *address })),
+        Event::Masked { block, mask, .. } => Ok(Some(Asked::Under {
+            block: *block,
+            mask: *mask,
+        })),
+        Event::Reply { tag, .. } => Ok(last_request(records, places, item.log, *tag)),
         Event::Hit { port, tag }
         | Event::Primary { port, tag, .. }
         | Event::Merge { port, tag, .. }
-        | Event::Stall { port, tag } => request_address(alloc, records, places, *port, *tag),
+        | Event::Stall { port, tag } => request_asked(alloc, records, places, *port, *tag),
         _ => Ok(None),
     }
 }

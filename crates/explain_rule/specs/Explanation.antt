@@ -58,6 +58,7 @@ pub record ComeFrom (shape : Shape) (rs : List Record) (breach : Breach) (why : 
 -- has.
 pub record IsExplanation (shape : Shape) (memory : List (ℕ × Bytes)) (rs : List Record) (breach : Breach) (most : ℕ)
     (why : Explanation) : Type 0 where
+  pub below : why.below ≡ shape.below
   pub rule : why.rule ≡ rule_of breach
   pub limit : why.limit ≡ limit_at shape (rule_of breach) why.broken (record_at rs why.history.place)
   pub history : IsHistoryOf shape rs breach most why.history

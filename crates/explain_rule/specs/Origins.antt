@@ -56,6 +56,9 @@ wrong_value (Some broken) event = value_at broken.expected event
 abbrev pub fault_address : Rule → Option Broken → Event → Option ℕ
 fault_address rules.Present broken event = named_address broken
 fault_address rules.NeedlessStall broken event = named_address broken
+fault_address rules.NotOwned broken event = named_address broken
+fault_address rules.Overtakes broken event = named_address broken
+fault_address rules.OutsideHeld broken event = named_address broken
 fault_address rule broken event = wrong_address broken event
 
 -- The state that the rule is about comes from these of the records at the places before, where a record breaks it.

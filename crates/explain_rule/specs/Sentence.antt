@@ -1,7 +1,12 @@
 -- What each rule asks, as it is told.
-use Rattle.std.specs.Prelude.{ℕ, List, codes}
+use Rattle.std.specs.Prelude.{ℕ, List, Option, Some, None, codes}
+use Rattle.lf_rules.specs.declared.event.Event.{Event}
+use Rattle.lf_rules.specs.declared.event.Event.TheVariants.{Stall, Yield1}
+use Rattle.lf_rules.specs.declared.event.Record.{Record}
 use Rattle.lf_rules.specs.declared.rule.Rule.{Rule}
 use Rattle.lf_rules.specs.declared.rule.Rule.TheVariants as rules
+use Rattle.lf_rules.specs.declared.shape.Below.{Below}
+use Rattle.lf_rules.specs.declared.shape.Below.TheVariants.{Outside}
 
 abbrev pub sentence : Rule → List ℕ
 sentence rules.TagRange = codes "the tag is below the number of tags of a port"
@@ -32,3 +37,21 @@ sentence rules.SecondPresent = codes "level two does not have the second-level b
 sentence rules.NotFetched = codes "a level-two register holds the second-level block"
 sentence rules.Inclusion = codes "level one has no line and no register on the second-level block"
 sentence rules.FenceBusy = codes "no tag of the port is busy"
+sentence rules.NotOwned = codes "the request is a load, or level one has the right to write the block"
+sentence rules.Overtakes = codes "no waiting request of the port has a byte of the request"
+sentence rules.OutsideHeld = codes "level one does not have the block that the outside writes"
+
+-- the same of an event of a cache by itself
+abbrev pub alone_sentence : Event → Rule → List ℕ
+alone_sentence (Stall port tag) rules.Present =
+    codes "level one does not have the block, the request is a store to a shared line, or it would overtake another"
+alone_sentence event rules.Present =
+    codes "level one does not have the block, or the request is a store to a shared line"
+alone_sentence event rules.SetFull = codes "level one has the line, or its set has a free way"
+alone_sentence (Yield1 block) rules.EvictMask = codes "no byte of the line is dirty"
+alone_sentence event rule = sentence rule
+
+-- of the record that breaks it, where there is one
+abbrev pub sentence_at : Below → Option Record → Rule → List ℕ
+sentence_at Outside (Some r) rule = alone_sentence r.event rule
+sentence_at below item rule = sentence rule

@@ -3,16 +3,23 @@ use Rattle.std.specs.Prelude.{ℕ, Bool, true, false, List, [], ◌∷◌, ◌++
 use Rattle.std.specs.Fmt.{decimal}
 use Rattle.std.specs.List.{flat_map}
 use Rattle.lf_rules.specs.declared.mask.Mask.{Mask}
+use Rattle.lf_rules.specs.declared.shape.Below.{Below}
+use Rattle.lf_rules.specs.Step.{by_below}
 use Rattle.lf_rules.specs.Address.{Masks}
 use Rattle.lf_replay.specs.declared.look.BlockState.{BlockState}
 use Rattle.text_print.specs.Text.{hexadecimal, data_text, mask_field, masks_text}
 use Rattle.explain_replay.specs.declared.named.NamedBlock.{NamedBlock}
 use Rattle.explain_replay.specs.declared.broken.Broken.{Broken}
 
+-- who else may hold a line
+abbrev pub holder_text : Bool → List ℕ
+holder_text true = codes ", which the outside may hold too"
+holder_text false = []
+
 -- a line of level one, by its dirty mask
-abbrev pub line1_text : Option Mask → List ℕ
-line1_text None = codes "none"
-line1_text (Some mask) = codes "dirty" ++ mask_field mask
+abbrev pub line1_text : Option Mask → Bool → List ℕ
+line1_text None shared = codes "none"
+line1_text (Some mask) shared = codes "dirty" ++ mask_field mask ++ holder_text shared
 
 -- a line of level two, by its dirty masks
 abbrev pub line2_text : Option Masks → List ℕ
@@ -36,7 +43,7 @@ answer_text false = codes "no"
 -- the lines of both levels
 abbrev pub lines_text : BlockState → List ℕ
 lines_text state =
-    codes "  level-one line        " ++ line1_text state.line1
+    codes "  level-one line        " ++ line1_text state.line1 state.shared
     ++ 10 ∷ codes "  level-two line        " ++ line2_text state.line2 ++ 10 ∷ []
 
 -- the registers of both levels
@@ -66,10 +73,22 @@ block_text named =
     heading_text named ++ lines_text named.state ++ registers_text named.state ++ asked_text named.state
     ++ memory_text named.state
 
-abbrev pub blocks_text : List NamedBlock → List ℕ
-blocks_text all = flat_map block_text all
+-- a cache by itself has a line and a register of the block
+abbrev pub alone_text : BlockState → List ℕ
+alone_text state =
+    codes "  level-one line        " ++ line1_text state.line1 state.shared
+    ++ 10 ∷ codes "  level-one register    " ++ register1_text state.held state.stores ++ 10 ∷ []
+
+unfoldable pub alone_block_text : NamedBlock → List ℕ
+alone_block_text named = heading_text named ++ alone_text named.state ++ memory_text named.state
+
+abbrev pub any_block_text : Below → NamedBlock → List ℕ
+any_block_text below named = by_below below (block_text named) (alone_block_text named)
+
+abbrev pub blocks_text : Below → List NamedBlock → List ℕ
+blocks_text below all = flat_map (any_block_text below) all
 
 -- the blocks that the record names
-abbrev pub state_text : Option Broken → List ℕ
-state_text None = []
-state_text (Some broken) = blocks_text broken.blocks.items
+abbrev pub state_text : Below → Option Broken → List ℕ
+state_text below None = []
+state_text below (Some broken) = blocks_text below broken.blocks.items

@@ -119,7 +119,7 @@ pub fn masks_of(event: &Event) -> Masks
     ensures { result ≡ masks_of event.now }
 {
     match event {
-        Event::Evict1 { mask, .. } => one_mask(*mask),
+        Event::Evict1 { mask, .. } | Event::Clean1 { mask, .. } => one_mask(*mask),
         Event::Evict2 { masks, .. } => copied(masks),
         _ => no_masks(),
     }

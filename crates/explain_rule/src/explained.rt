@@ -10,25 +10,30 @@ use crate::carried::{Carried, WantedLines};
 use crate::explanation::Explanation;
 use crate::field::FieldLine;
 use crate::limit::{FreeLine, LimitLine};
-use crate::sentence::sentence_of;
+use crate::sentence::sentence_at;
 use crate::state::State;
 use crate::taken::TakenLine;
 use explain_history::{record_at, room};
 use explain_lines::{Listing, RecordLine, RecordLines};
 use explain_origins::{Origins, OriginsText};
-use lf_rules::Rule;
 use std::fmt;
 
-/// What a rule asks.
+/// What the rule asks of the record that breaks it.
 #[derive(Clone, Copy)]
-struct Asked(Rule);
+struct Asked<'a> {
+    listing: Listing<'a>,
+    why: &'a Explanation,
+}
 
-impl fmt::Display for Asked {
-    ghost output = { λ asked. Some (asked_text asked.0) };
+impl fmt::Display for Asked<'_> {
+    ghost output = { λ it. Some (asked_text it.why.now.below it.why.now.rule
+        (record_at it.listing.records.now.records it.why.now.history.place)) };
 
     fn fmt<W: fmt::Write>(&self, f: &mut fmt::Formatter<W>) -> fmt::Result {
-        let rule = self.0;
-        let sentence = sentence_of(rule);
+        let mut room = room();
+        let item = record_at(self.listing.records, self.why.history.place, &mut room);
+        let rule = self.why.rule;
+        let sentence = sentence_at(self.why.below, rule, item);
         write!(f, "  {rule} asks that {sentence}\n")
     }
 }
@@ -148,7 +153,10 @@ impl fmt::Display for FaultLines<'_> {
             listing,
             place: self.why.history.place,
         };
-        let asked = Asked(self.why.rule);
+        let asked = Asked {
+            listing,
+            why: self.why,
+        };
         let limit = LimitLine(self.why.limit);
         let free = FreeLine(self.why.free);
         let taken = TakenLine(self.why.taken);
@@ -181,7 +189,10 @@ impl fmt::Display for Explained<'_> {
             listing,
             why: self.why,
         };
-        let state = State(&self.why.broken);
+        let state = State {
+            below: self.why.below,
+            broken: &self.why.broken,
+        };
         let origins = OriginsLines {
             listing,
             origins: &self.why.origins,

@@ -18,7 +18,7 @@ use explain_history::History;
 use explain_origins::Origins;
 use explain_replay::Broken;
 use lf_codec::Packed;
-use lf_rules::{Memory, NoMemory, Rule, Shape};
+use lf_rules::{Below, Memory, NoMemory, Rule, Shape};
 use std::alloc::Global;
 
 /// Which record breaks a rule, and which rule.
@@ -44,6 +44,8 @@ impl Breach {
 /// Why a trace is not legal: a record that breaks a rule, and what came before it.
 #[derive(Drop, PartialEq, Eq)]
 pub struct Explanation {
+    /// What is below level one.
+    pub below: Below,
     /// The rule that the record breaks first.
     pub rule: Rule,
     /// How many the configuration has of what the rule is about, where it is about that.
@@ -99,6 +101,7 @@ pub fn explain(
     let further = further_at(alloc, shape, records, &before, breach, &broken, free, place)?;
     let taken = taken_at(shape, records, rule, limit, &origins, &further);
     Ok(Explanation {
+        below: shape.below,
         rule,
         limit,
         free,

@@ -3,13 +3,13 @@
 ghost use Rattle.std.specs.Prelude.{◌≡◌, ◌<◌, Some, IfOk};
 ghost use Rattle.lf_rules.specs.InRange.{IsShape};
 ghost use Rattle.explain_history.specs.Touching.{record_at};
-ghost use Rattle.explain_rule.specs.Field.{word_at, field_of, field_at, field_line, field_text};
+ghost use Rattle.explain_rule.specs.Field.{word_at, word_under, word_asked, field_of, field_at, field_line, field_text};
 
 use crate::limit::Limit;
-use explain_history::{record_at, room};
-use explain_replay::request_address;
+use explain_history::{Asked, record_at, room};
+use explain_replay::request_asked;
 use lf_codec::Packed;
-use lf_rules::{Event, NoMemory, Rule, Shape};
+use lf_rules::{Event, Mask, NoMemory, Rule, Shape};
 use std::alloc::Global;
 use std::fmt;
 
@@ -30,6 +30,26 @@ fn word_at(shape: &Shape, address: u64) -> Field
     Field::Word((address % u64::from(shape.block)) as u32 / 8)
 }
 
+/// The first word of a block that has a byte of the mask.
+fn word_under(mask: Mask) -> Option<Field>
+    ensures { result ≡ word_under mask.0 }
+{
+    (0..8u8)
+        .find(|word| mask.touches(*word))
+        .map(|word| Field::Word(u32::from(word)))
+}
+
+/// The first word that a request asks for.
+fn word_asked(shape: &Shape, asked: Asked) -> Option<Field>
+    requires { 0 < shape.now.block }
+    ensures { result ≡ word_asked shape.now asked }
+{
+    match asked {
+        Asked::From { address } => Some(word_at(shape, address)),
+        Asked::Under { mask, .. } => word_under(mask),
+    }
+}
+
 /// The field that the target of a stall needs, where a register has one for each word, or for each block of a
 /// second-level block.
 fn field_of(
@@ -46,8 +66,8 @@ fn field_of(
 {
     match (limit, event) {
         (Some(Limit::Words(_)), Event::Stall { port, tag }) => {
-            match request_address(alloc, records, before, *port, *tag)? {
-                Some(address) => Ok(Some(word_at(shape, address))),
+            match request_asked(alloc, records, before, *port, *tag)? {
+                Some(asked) => Ok(word_asked(shape, asked)),
                 None => Ok(None),
             }
         }

@@ -24,5 +24,5 @@ pub use explained::Explained;
 pub use explanation::{Breach, Explanation, explain};
 pub use field::Field;
 pub use limit::Limit;
-pub use sentence::sentence_of;
+pub use sentence::sentence_at;
 pub use taken::Taken;

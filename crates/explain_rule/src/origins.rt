@@ -89,7 +89,11 @@ fn fault_address(rule: Rule, broken: &Option<Broken>, event: &Event) -> Option<u
     ensures { result ≡ fault_address rule broken.now event.now }
 {
     match rule {
-        Rule::Present | Rule::NeedlessStall => named_address(broken),
+        Rule::Present
+        | Rule::NeedlessStall
+        | Rule::NotOwned
+        | Rule::Overtakes
+        | Rule::OutsideHeld => named_address(broken),
         _ => wrong_address(broken, event),
     }
 }

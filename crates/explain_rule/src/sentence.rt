@@ -1,12 +1,13 @@
 //! What each rule asks.
 
 ghost use Rattle.std.specs.Prelude.{◌≡◌};
-ghost use Rattle.explain_rule.specs.Sentence.{sentence};
+ghost use Rattle.std.specs.Option.{option_map};
+ghost use Rattle.explain_rule.specs.Sentence.{sentence, alone_sentence, sentence_at};
 
-use lf_rules::Rule;
+use lf_rules::{Below, Event, Record, Rule};
 
-/// What the rule asks, as a sentence that follows "asks that".
-pub fn sentence_of(rule: Rule) -> &'static str
+/// What the rule asks.
+fn sentence_of(rule: Rule) -> &'static str
     ensures { result.now ≡ sentence rule }
 {
     match rule {
@@ -38,5 +39,35 @@ pub fn sentence_of(rule: Rule) -> &'static str
         Rule::NotFetched => "a level-two register holds the second-level block",
         Rule::Inclusion => "level one has no line and no register on the second-level block",
         Rule::FenceBusy => "no tag of the port is busy",
+        Rule::NotOwned => "the request is a load, or level one has the right to write the block",
+        Rule::Overtakes => "no waiting request of the port has a byte of the request",
+        Rule::OutsideHeld => "level one does not have the block that the outside writes",
+    }
+}
+
+/// What the rule asks of an event of a cache by itself.
+fn alone_sentence(rule: Rule, event: &Event) -> &'static str
+    ensures { result.now ≡ alone_sentence event.now rule }
+{
+    match (rule, event) {
+        (Rule::Present, Event::Stall { .. }) => {
+            "level one does not have the block, the request is a store to a shared line, or it would overtake another"
+        }
+        (Rule::Present, _) => {
+            "level one does not have the block, or the request is a store to a shared line"
+        }
+        (Rule::SetFull, _) => "level one has the line, or its set has a free way",
+        (Rule::EvictMask, Event::Yield1 { .. }) => "no byte of the line is dirty",
+        _ => sentence_of(rule),
+    }
+}
+
+/// What the rule asks of the record that breaks it, where there is one, as a sentence that follows "asks that".
+pub fn sentence_at(below: Below, rule: Rule, item: Option<&Record>) -> &'static str
+    ensures { result.now ≡ sentence_at below (option_map (λ item. item.now) item.entry) rule }
+{
+    match (below, item) {
+        (Below::Outside, Some(item)) => alone_sentence(rule, &item.event),
+        _ => sentence_of(rule),
     }
 }

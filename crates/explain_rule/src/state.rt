@@ -5,24 +5,49 @@ ghost use Rattle.text_print.specs.Text.{hexadecimal};
 ghost use Rattle.explain_rule.specs.State.{answer_text, line1_text, line2_text, register1_text, register2_text};
 ghost use Rattle.explain_rule.specs.State.{lines_text, registers_text, asked_text, memory_text};
 ghost use Rattle.explain_rule.specs.State.{heading_text, block_text, blocks_text, state_text};
+ghost use Rattle.explain_rule.specs.State.{holder_text, alone_text, alone_block_text, any_block_text};
 
 use explain_replay::{BlockState, Broken, NamedBlock};
-use lf_rules::{Mask, Masks};
+use lf_rules::{Below, Mask, Masks};
 use std::fmt;
 use text_print::{Data, MaskFields};
 
-/// A line of level one, by its dirty mask.
+/// Who else may hold a line.
 #[derive(Clone, Copy)]
-struct Line1(Option<Mask>);
+struct Holder {
+    shared: bool,
+}
 
-impl fmt::Display for Line1 {
-    ghost output = { λ line. Some (line1_text line.0) };
+impl fmt::Display for Holder {
+    ghost output = { λ holder. Some (holder_text holder.shared) };
 
     fn fmt<W: fmt::Write>(&self, f: &mut fmt::Formatter<W>) -> fmt::Result {
-        match self.0 {
+        if self.shared {
+            f.write_str(", which the outside may hold too")
+        } else {
+            Ok(())
+        }
+    }
+}
+
+/// A line of level one, by its dirty mask.
+#[derive(Clone, Copy)]
+struct Line1 {
+    mask: Option<Mask>,
+    shared: bool,
+}
+
+impl fmt::Display for Line1 {
+    ghost output = { λ line. Some (line1_text line.mask line.shared) };
+
+    fn fmt<W: fmt::Write>(&self, f: &mut fmt::Formatter<W>) -> fmt::Result {
+        match self.mask {
             Some(mask) => {
                 let bits = mask.0;
-                write!(f, "dirty mask=0x{bits:x}")
+                let holder = Holder {
+                    shared: self.shared,
+                };
+                write!(f, "dirty mask=0x{bits:x}{holder}")
             }
             None => f.write_str("none"),
         }
@@ -104,7 +129,10 @@ impl fmt::Display for Lines<'_> {
     ghost output = { λ lines. Some (lines_text lines.0.now) };
 
     fn fmt<W: fmt::Write>(&self, f: &mut fmt::Formatter<W>) -> fmt::Result {
-        let line1 = Line1(self.0.line1);
+        let line1 = Line1 {
+            mask: self.0.line1,
+            shared: self.0.shared,
+        };
         let line2 = Line2(&self.0.line2);
         write!(
             f,
@@ -192,6 +220,44 @@ impl fmt::Display for Heading<'_> {
     }
 }
 
+/// What the bank of a cache by itself has of a block: its line and its register.
+#[derive(Clone, Copy)]
+struct AloneLines<'a>(&'a BlockState);
+
+impl fmt::Display for AloneLines<'_> {
+    ghost output = { λ lines. Some (alone_text lines.0.now) };
+
+    fn fmt<W: fmt::Write>(&self, f: &mut fmt::Formatter<W>) -> fmt::Result {
+        let line = Line1 {
+            mask: self.0.line1,
+            shared: self.0.shared,
+        };
+        let register = Register1 {
+            held: self.0.held,
+            stores: self.0.stores,
+        };
+        write!(
+            f,
+            "  level-one line        {line}\n  level-one register    {register}\n"
+        )
+    }
+}
+
+/// A block of a cache by itself, under its heading.
+#[derive(Clone, Copy)]
+struct AloneBlock<'a>(&'a NamedBlock);
+
+impl fmt::Display for AloneBlock<'_> {
+    ghost output = { λ block. Some (alone_block_text block.0.now) };
+
+    fn fmt<W: fmt::Write>(&self, f: &mut fmt::Formatter<W>) -> fmt::Result {
+        let heading = Heading(self.0);
+        let lines = AloneLines(&self.0.state);
+        let memory = Memory(&self.0.state);
+        write!(f, "{heading}{lines}{memory}")
+    }
+}
+
 /// A block, under its heading.
 #[derive(Clone, Copy)]
 struct Block<'a>(&'a NamedBlock);
@@ -209,16 +275,46 @@ impl fmt::Display for Block<'_> {
     }
 }
 
-/// The blocks, one after another.
+/// A block of the hierarchy, under its heading.
 #[derive(Clone, Copy)]
-struct Blocks<'a>(&'a [NamedBlock]);
+struct AnyBlock<'a> {
+    below: Below,
+    named: &'a NamedBlock,
+}
 
-impl fmt::Display for Blocks<'_> {
-    ghost output = { λ blocks. Some (blocks_text blocks.0.now) };
+impl fmt::Display for AnyBlock<'_> {
+    ghost output = { λ block. Some (any_block_text block.below block.named.now) };
 
     fn fmt<W: fmt::Write>(&self, f: &mut fmt::Formatter<W>) -> fmt::Result {
-        for named in self.0 {
-            let block = Block(named);
+        match self.below {
+            Below::LevelTwo => {
+                let block = Block(self.named);
+                write!(f, "{block}")
+            }
+            Below::Outside => {
+                let block = AloneBlock(self.named);
+                write!(f, "{block}")
+            }
+        }
+    }
+}
+
+/// The blocks, one after another.
+#[derive(Clone, Copy)]
+struct Blocks<'a> {
+    below: Below,
+    all: &'a [NamedBlock],
+}
+
+impl fmt::Display for Blocks<'_> {
+    ghost output = { λ blocks. Some (blocks_text blocks.below blocks.all.now) };
+
+    fn fmt<W: fmt::Write>(&self, f: &mut fmt::Formatter<W>) -> fmt::Result {
+        for named in self.all {
+            let block = AnyBlock {
+                below: self.below,
+                named,
+            };
             write!(f, "{block}")?;
         }
         Ok(())
@@ -227,15 +323,21 @@ impl fmt::Display for Blocks<'_> {
 
 /// The blocks that the record names, where a rule of a bank is broken.
 #[derive(Clone, Copy)]
-pub(crate) struct State<'a>(pub &'a Option<Broken>);
+pub(crate) struct State<'a> {
+    pub below: Below,
+    pub broken: &'a Option<Broken>,
+}
 
 impl fmt::Display for State<'_> {
-    ghost output = { λ state. Some (state_text state.0.now) };
+    ghost output = { λ state. Some (state_text state.below state.broken.now) };
 
     fn fmt<W: fmt::Write>(&self, f: &mut fmt::Formatter<W>) -> fmt::Result {
-        match self.0 {
+        match self.broken {
             Some(broken) => {
-                let blocks = Blocks(&broken.blocks);
+                let blocks = Blocks {
+                    below: self.below,
+                    all: &broken.blocks,
+                };
                 write!(f, "{blocks}")
             }
             None => Ok(()),

@@ -27,9 +27,9 @@ fn block_for(shape: &Shape, event: &Event) -> Option<u64>
 {
     match event {
         Event::Issue { address, .. } => Some(*address / u64::from(shape.block)),
-        Event::SecondPrimary { block, .. } | Event::SecondMerge { block, .. } => {
-            Some(u64::from(*block))
-        }
+        Event::Masked { block, .. }
+        | Event::SecondPrimary { block, .. }
+        | Event::SecondMerge { block, .. } => Some(u64::from(*block)),
         _ => None,
     }
 }

@@ -5,6 +5,7 @@ use Rattle.std.specs.List.{range_with_len, flat_map}
 use Rattle.lf_rules.specs.declared.shape.Shape.{Shape}
 use Rattle.lf_rules.specs.declared.event.Record.{Record}
 use Rattle.lf_rules.specs.Fits.{Bytes}
+use Rattle.lf_rules.specs.Step.{by_below}
 use Rattle.explain_history.specs.History.{last_at_request}
 use Rattle.explain_history.specs.Places.{places_of_numbers}
 use Rattle.explain_history.specs.Waiting.{waiting_request}
@@ -44,12 +45,17 @@ oldest_of shape rs place =
 
 -- what is told of a bank: its registers with their targets, the blocks that level one asked for, those that level two
 -- supplied, and the last events of level two and of the bank
-abbrev pub parts_at_end : List StatePart
-parts_at_end = parts.Held1 ∷ parts.Held2 ∷ parts.Asked ∷ parts.Supplied ∷ parts.LastOfLevelTwo ∷ parts.LastOfBank ∷ []
+abbrev pub two_at_end : List StatePart
+two_at_end = parts.Held1 ∷ parts.Held2 ∷ parts.Asked ∷ parts.Supplied ∷ parts.LastOfLevelTwo ∷ parts.LastOfBank ∷ []
+
+-- A cache by itself has no level two.
+abbrev pub parts_at_end : Shape → List StatePart
+parts_at_end shape = by_below shape.below two_at_end (parts.Held1 ∷ parts.LastOfBank ∷ [])
 
 -- They are of these parts, after all records of the bank, in the order of their numbers.
 abbrev pub IsStateAtEnd : Shape → List Record → ℕ → List Origins → Type 0
-IsStateAtEnd shape rs bank state = AreOf shape rs (places_of_numbers bank rs (length rs)) parts_at_end state
+IsStateAtEnd shape rs bank state =
+    AreOf shape rs (places_of_numbers bank rs (length rs)) (parts_at_end shape) state
 
 -- What is told of the oldest request: its record, the last records at its block, and what its bank has at the end.
 pub record IsStuck (shape : Shape) (rs : List Record) (most place oldest : ℕ) (at_block : List ℕ)

@@ -14,7 +14,7 @@ use explain_history::{last_at_request, places_in_order, waiting_request};
 use explain_lines::{Listing, Marks, RecordLine, RecordLines, marks_of};
 use explain_origins::{Origin, Origins, OriginsText, StatePart, origins_of_all, origins_standing};
 use lf_codec::Packed;
-use lf_rules::{NoMemory, Shape};
+use lf_rules::{Below, NoMemory, Shape};
 use lf_verdict::Incomplete;
 use std::alloc::Global;
 use std::fmt;
@@ -86,7 +86,7 @@ fn oldest_request(
 }
 
 /// What the bank has at the end: its registers with their targets, the blocks that level one asked for, those that
-/// level two supplied, and the last events.
+/// level two supplied, and the last events. A cache by itself has no level two.
 fn state_at_end(
     alloc: Global,
     shape: &Shape,
@@ -97,15 +97,23 @@ fn state_at_end(
     ensures { IfOk result (λ state. IsStateAtEnd shape.now records.now.records bank state.items) }
 {
     let before = places_in_order(alloc, records, bank, records.len())?;
-    let parts = [
-        StatePart::Held1,
-        StatePart::Held2,
-        StatePart::Asked,
-        StatePart::Supplied,
-        StatePart::LastOfLevelTwo,
-        StatePart::LastOfBank,
-    ];
-    origins_of_all(alloc, shape, records, &before, &parts)
+    match shape.below {
+        Below::LevelTwo => {
+            let parts = [
+                StatePart::Held1,
+                StatePart::Held2,
+                StatePart::Asked,
+                StatePart::Supplied,
+                StatePart::LastOfLevelTwo,
+                StatePart::LastOfBank,
+            ];
+            origins_of_all(alloc, shape, records, &before, &parts)
+        }
+        Below::Outside => {
+            let parts = [StatePart::Held1, StatePart::LastOfBank];
+            origins_of_all(alloc, shape, records, &before, &parts)
+        }
+    }
 }
 
 /// What is told of the oldest request without a reply, where the one at this place has none.

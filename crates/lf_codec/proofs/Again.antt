@@ -10,15 +10,14 @@ use Rattle.lf_codec.specs.declared.stage.Kind.TheVariants as kinds
 use Rattle.lf_codec.specs.declared.stage.Head.{Head}
 use Rattle.lf_codec.specs.Layout.{u32_bytes, kind_of, code_of, IsCode, fixed_bytes, data_of, head_bytes}
 use Rattle.lf_codec.specs.Layout.{record_bytes}
-use Rattle.lf_codec.specs.Checks.{byte_at, u32_at, fixed_checks}
+use Rattle.lf_codec.specs.Checks.{byte_at, u32_at}
 use Rattle.lf_codec.specs.Steps.{fixed_len, data_len, head_at, record_of}
 use Rattle.lf_codec.specs.Sound.{IsInRange}
 use Rattle.lf_codec.specs.Lent.{BeginWith, HoldParts, fixed_in, carried_in, record_in, spelled_record}
 use Rattle.lf_codec.specs.Packed.{SpellOne}
-use Rattle.lf_codec.proofs.Judged.{judged_passed}
 use Rattle.lf_codec.proofs.Numbers.{length-u32_bytes}
-use Rattle.lf_codec.proofs.Soundness.{block_at_most_64, factor_at_most_4, data_limit}
-use Rattle.lf_codec.proofs.EachKind.{kind_again, event_again, data_len_again, length-fixed_bytes, fixed_passes}
+use Rattle.lf_codec.proofs.Soundness.{block_at_most_64, factor_at_most_4}
+use Rattle.lf_codec.proofs.EachKind.{kind_again, event_again, data_len_again, length-fixed_bytes, data_few}
 use Rattle.lf_codec.proofs.EachKind.{u32_after, u32_same}
 
 is_code : (kind : Kind) → IsCode (code_of kind)
@@ -37,6 +36,11 @@ is_code kinds.Fill2 = (omega arith, omega arith)
 is_code kinds.Evict2 = (omega arith, omega arith)
 is_code kinds.Fence = (omega arith, omega arith)
 is_code kinds.SecondMerge = (omega arith, omega arith)
+is_code kinds.Masked = (omega arith, omega arith)
+is_code kinds.Grant = (omega arith, omega arith)
+is_code kinds.Clean1 = (omega arith, omega arith)
+is_code kinds.Yield1 = (omega arith, omega arith)
+is_code kinds.Outside = (omega arith, omega arith)
 
 -- the head of the record
 abbrev pub head_in : Record → Head
@@ -124,9 +128,7 @@ module _ (h : Header) (bytes : List ℕ) (x : Record) (range : IsInRange h) (fro
       fixed_long,
     );
     carried_whole = rw (fixed_is, behind_is) (omega (arith, length-append (data_of x.event) front.more, carried_long));
-    few = rw fixed_is (data_limit h x.bank (kind_of x.event) (fixed_bytes x.event) range
-        (judged_passed (fixed_checks h x.bank (kind_of x.event) (fixed_bytes x.event))
-        (fixed_passes h x.bank x.event small front.fits.event)));
+    few = rw fixed_is (omega (arith, data_few h x.bank x.event range front.fits.event, carried_long));
   }
 
   pub front_again : record_in h (head_in x) (drop 8 bytes) ≡ x

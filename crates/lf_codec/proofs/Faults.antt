@@ -14,7 +14,7 @@ use Rattle.lf_codec.specs.declared.stage.Stage.TheVariants as stages
 use Rattle.lf_codec.specs.declared.header.Header.{Header}
 use Rattle.lf_codec.specs.declared.progress.Progress.{Progress}
 use Rattle.lf_codec.specs.Checks.{Checks, judged, byte_at, header_checks, memory_checks, end_checks, head_checks}
-use Rattle.lf_codec.specs.Checks.{issue_checks, reply_checks, request_checks}
+use Rattle.lf_codec.specs.Checks.{issue_checks, reply_checks, request_checks, masked_checks, outside_checks}
 use Rattle.lf_codec.specs.Checks.{block_checks, second_miss_checks, evict_checks, second_checks, wide_evict_checks}
 use Rattle.lf_codec.specs.Checks.{fixed_checks, stage_checks}
 use Rattle.lf_codec.specs.Steps.{stage_len}
@@ -47,7 +47,7 @@ judged_of_bytes ((c, false) ∷ checks) cause all e = let same : c ≡ cause = c
 
 fixed_of_bytes : (h : Header) (bank : ℕ) (kind : Kind) (bytes : List ℕ) → AreOfBytes (fixed_checks h bank kind bytes)
 unfolding is_of_bytes AreOfBytes fixed_checks issue_checks reply_checks request_checks block_checks second_miss_checks
-    evict_checks second_checks wide_evict_checks
+    evict_checks second_checks wide_evict_checks masked_checks outside_checks
 fixed_of_bytes h bank kinds.Issue bytes = (refl, (refl, (refl, (refl, (refl, (refl, tt))))))
 fixed_of_bytes h bank kinds.Reply bytes = (refl, (refl, tt))
 fixed_of_bytes h bank kinds.Hit bytes = (refl, tt)
@@ -63,6 +63,11 @@ fixed_of_bytes h bank kinds.Fill2 bytes = (refl, (refl, tt))
 fixed_of_bytes h bank kinds.Evict2 bytes = (refl, (refl, (refl, tt)))
 fixed_of_bytes h bank kinds.Fence bytes = tt
 fixed_of_bytes h bank kinds.SecondMerge bytes = (refl, (refl, tt))
+fixed_of_bytes h bank kinds.Masked bytes = (refl, (refl, (refl, (refl, tt))))
+fixed_of_bytes h bank kinds.Grant bytes = (refl, tt)
+fixed_of_bytes h bank kinds.Clean1 bytes = (refl, (refl, tt))
+fixed_of_bytes h bank kinds.Yield1 bytes = (refl, tt)
+fixed_of_bytes h bank kinds.Outside bytes = (refl, (refl, tt))
 
 stage_of_bytes : (s : Stage) (p : Progress) (bytes : List ℕ) → AreOfBytes (stage_checks s p bytes)
 unfolding is_of_bytes AreOfBytes stage_checks header_checks memory_checks end_checks head_checks

@@ -32,3 +32,8 @@ fixed_bytes_len (events.Evict2 second masks bytes) =
     )
 fixed_bytes_len events.Fence = refl
 fixed_bytes_len (events.SecondMerge block register) = refl
+fixed_bytes_len (events.Masked op tag block mask bytes) = refl
+fixed_bytes_len (events.Grant block) = refl
+fixed_bytes_len (events.Clean1 block mask bytes) = refl
+fixed_bytes_len (events.Yield1 block) = refl
+fixed_bytes_len (events.Outside block mask bytes) = refl

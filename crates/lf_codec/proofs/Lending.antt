@@ -75,6 +75,11 @@ can_be_kept h kinds.Evict2 fixed bytes parts = (
 )
 can_be_kept h kinds.Fence fixed bytes parts = tt
 can_be_kept h kinds.SecondMerge fixed bytes parts = tt
+can_be_kept h kinds.Masked fixed bytes parts = omega (arith, parts.few)
+can_be_kept h kinds.Grant fixed bytes parts = tt
+can_be_kept h kinds.Clean1 fixed bytes parts = omega (arith, parts.few)
+can_be_kept h kinds.Yield1 fixed bytes parts = tt
+can_be_kept h kinds.Outside fixed bytes parts = omega (arith, parts.few)
 
 -- ---- the reader
 
@@ -135,7 +140,7 @@ module _ (p : Progress) (bytes : List ℕ) (item : Record) (n : ℕ) (whole : Is
 
   hand : InHand p.header p.counts whole.head whole.fixed
   hand =
-      in_hand p.header p.counts whole.head whole.fixed parts.fixed_whole fixed_fits
+      in_hand p.header p.counts whole.head whole.fixed range.block_size parts.fixed_whole fixed_fits
       (subst (FitsHead p.header p.counts) (sym parts.head_is) head_here.0)
       (all_passed (fixed_checks p.header whole.head.bank whole.head.kind whole.fixed) parts.fixed_passes)
 

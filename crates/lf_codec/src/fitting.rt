@@ -4,19 +4,19 @@ ghost use Rattle.std.specs.Prelude.{◌≡◌, ℕ, ◌≤◌, ◌<◌, ◌↔�
 ghost use Rattle.std.specs.List.{AllByRecursion};
 ghost use Rattle.lf_rules.specs.Fits.{IsData};
 ghost use Rattle.lf_codec.specs.Checks.{log_limit};
-ghost use Rattle.lf_codec.specs.Trace.{FitsHeader, FitsMemory, FitsIn, FitsTrace, log_len};
+ghost use Rattle.lf_codec.specs.Trace.{FitsHeader, FitsMemory, FitsIn, FitsTrace, log_len, replies_fit};
 
-use crate::checks::{is_factor, last_kind, log_limit};
+use crate::checks::{has_kind, is_factor, log_limit, reply_fits};
 use crate::header::Header;
 use crate::writing::code_of;
-use lf_rules::{Block, Memory, Record, fits};
+use lf_rules::{Block, Event, Memory, Record, fits};
 
 fn header_fits(header: &Header) -> bool
     ensures { IsTrue result ↔ FitsHeader header.now }
 {
     let _memory_count = header.memory_count;
     1 <= header.version
-        && header.version <= 3
+        && header.version <= 4
         && 1 <= header.ports
         && header.ports <= 16
         && 1 <= header.banks
@@ -52,12 +52,23 @@ fn memory_fits(size: u16, memory: &Memory) -> bool
     true
 }
 
-/// Whether the record fits the header and is of a kind that its version has.
+/// Whether a reply has a size that the version allows.
+fn replies_fit(header: &Header, event: &Event) -> bool
+    ensures { result ≡ replies_fit header.now event.now }
+{
+    match event {
+        Event::Reply { size, .. } => reply_fits(header, *size),
+        _ => true,
+    }
+}
+
+/// Whether the record fits the header, is of a kind that its version has, and if it is a reply, of such a size.
 fn fits_in(header: &Header, item: &Record) -> bool
     requires { FitsHeader header.now }
     ensures { IsTrue result ↔ FitsIn header.now item.now }
 {
-    u16::from(code_of(&item.event)) <= last_kind(header.version)
+    has_kind(header.version, code_of(&item.event))
+        && replies_fit(header, &item.event)
         && fits(
             u32::from(header.ports),
             u32::from(header.banks),
@@ -98,7 +109,7 @@ fn logs_fit(header: &Header, records: &[Record]) -> bool
 }
 
 /// Whether these may be written as a trace: the header is in range and its `memory_count` is the
-/// memory's length, each record fits and is of a kind that the version has, and no log has more of them
+/// memory's length, each record fits and is of a kind and size that the version has, and no log has more of them
 /// than the version allows: 2^20, and 2^24 from version 2 on. It takes no memory.
 pub fn fits_trace(header: &Header, memory: &Memory, records: &[Record]) -> bool
     ensures { IsTrue result ↔ FitsTrace header.now memory.now.items records.now }

@@ -64,6 +64,11 @@ fn lend_parts<'a>(header: &Header, head: Head, rest: &'a [u8], place: &mut Recor
         Kind::Evict2 => *place = parts_view(header, Kind::Evict2, head, rest),
         Kind::Fence => *place = parts_view(header, Kind::Fence, head, rest),
         Kind::SecondMerge => *place = parts_view(header, Kind::SecondMerge, head, rest),
+        Kind::Masked => *place = parts_view(header, Kind::Masked, head, rest),
+        Kind::Grant => *place = parts_view(header, Kind::Grant, head, rest),
+        Kind::Clean1 => *place = parts_view(header, Kind::Clean1, head, rest),
+        Kind::Yield1 => *place = parts_view(header, Kind::Yield1, head, rest),
+        Kind::Outside => *place = parts_view(header, Kind::Outside, head, rest),
     }
 }
 

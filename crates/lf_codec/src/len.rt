@@ -21,9 +21,15 @@ fn event_len(event: &EventView<'_>) -> usize
         | EventView::Merge { .. }
         | EventView::Stall { .. }
         | EventView::SecondHit { .. }
-        | EventView::SecondStall { .. } => 4,
+        | EventView::SecondStall { .. }
+        | EventView::Grant { .. }
+        | EventView::Yield1 { .. } => 4,
         EventView::SecondPrimary { .. } | EventView::SecondMerge { .. } => 8,
-        EventView::Issue { bytes, .. } | EventView::Evict1 { bytes, .. } => 12 + bytes.len(),
+        EventView::Issue { bytes, .. }
+        | EventView::Evict1 { bytes, .. }
+        | EventView::Clean1 { bytes, .. }
+        | EventView::Outside { bytes, .. } => 12 + bytes.len(),
+        EventView::Masked { bytes, .. } => 16 + bytes.len(),
         EventView::Reply { bytes, .. } | EventView::Fill1 { bytes, .. } => 4 + bytes.len(),
         EventView::Fill2 { bytes, .. } => 4 + bytes.len(),
         EventView::Evict2 { masks, bytes, .. } => 4 + 8 * masks.len() + bytes.len(),

@@ -91,6 +91,29 @@ fn event_view<'a>(header: &Header, kind: Kind, fixed: &'a [u8], bytes: &'a [u8])
             block: u32_at(fixed, 0),
             register: u16_at(fixed, 4),
         },
+        Kind::Masked => EventView::Masked {
+            op: if fixed[0] == 0 { Op::Load } else { Op::Store },
+            tag: fixed[1],
+            block: u32_at(fixed, 4),
+            mask: Mask(u64_at(fixed, 8)),
+            bytes,
+        },
+        Kind::Grant => EventView::Grant {
+            block: u32_at(fixed, 0),
+        },
+        Kind::Clean1 => EventView::Clean1 {
+            block: u32_at(fixed, 0),
+            mask: Mask(u64_at(fixed, 4)),
+            bytes,
+        },
+        Kind::Yield1 => EventView::Yield1 {
+            block: u32_at(fixed, 0),
+        },
+        Kind::Outside => EventView::Outside {
+            block: u32_at(fixed, 0),
+            mask: Mask(u64_at(fixed, 4)),
+            bytes,
+        },
     }
 }
 

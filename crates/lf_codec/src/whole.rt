@@ -130,6 +130,11 @@ impl Progress {
             Kind::Evict2 => self.see_event(Kind::Evict2, bytes, place),
             Kind::Fence => self.see_event(Kind::Fence, bytes, place),
             Kind::SecondMerge => self.see_event(Kind::SecondMerge, bytes, place),
+            Kind::Masked => self.see_event(Kind::Masked, bytes, place),
+            Kind::Grant => self.see_event(Kind::Grant, bytes, place),
+            Kind::Clean1 => self.see_event(Kind::Clean1, bytes, place),
+            Kind::Yield1 => self.see_event(Kind::Yield1, bytes, place),
+            Kind::Outside => self.see_event(Kind::Outside, bytes, place),
         }
     }
 

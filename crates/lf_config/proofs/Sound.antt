@@ -2,35 +2,40 @@
 use Rattle.std.proofs.Common.{◌≡◌, ℕ, pos, negsuc, ◌^◌, ◌<◌, nat_le, List, [], ◌∷◌, Option, Some, None, Result, Ok}
 use Rattle.std.proofs.Common.{Err, IfOk, Bool, true, false}
 use Rattle.std.proofs.Common.{not, ◌&&◌, if◌then◌else◌, is_none, is_some, option_map, option_and_then, find, refl}
-use Rattle.std.proofs.Common.{subst, arith, codes}
+use Rattle.std.proofs.Common.{ap, subst, arith, codes}
 use Rattle.std.proofs.lemmas.Bool.Decides.{nat_tests}
 use Rattle.std.proofs.lemmas.Slice.Eq.{bytes_eq-Decides}
 use Rattle.std.specs.Option.{option_map_or}
 use Rattle.std.specs.List.{AllByRecursion}
 use Rattle.std.specs.Str.{bytes_eq}
 use Rattle.toml.specs.Data.{Data, string, integer, float, boolean, datetime, array, table, Members, as_integer}
-use Rattle.toml.specs.Data.{as_table, get_member}
+use Rattle.toml.specs.Data.{as_str, as_table, get_member}
 use Rattle.lf_config.specs.declared.key.LevelKey.{LevelKey}
 use Rattle.lf_config.specs.declared.key.LevelKey.TheVariants.{One, Two}
 use Rattle.lf_config.specs.declared.key.Part.{Part}
 use Rattle.lf_config.specs.declared.key.Part.TheVariants.{Sets, Ways, Organisation, Registers, Entries}
 use Rattle.lf_config.specs.declared.key.Key.{Key}
-use Rattle.lf_config.specs.declared.key.Key.TheVariants.{Ports, Banks, Block, Tags, Table, Of, Blocks}
+use Rattle.lf_config.specs.declared.key.Key.TheVariants.{Ports, Banks, Block, Tags, Table, Of, Blocks, Below, Dirty}
 use Rattle.lf_rules.specs.declared.shape.OrgShape.TheVariants.{Implicit, Explicit, Inverted}
 use Rattle.lf_config.specs.declared.key.Need.TheVariants.{UnlessInverted, IfExplicit}
 use Rattle.lf_rules.specs.declared.shape.Shape.{Shape}
-use Rattle.lf_config.specs.Key.{all_keys, level_keys, level_name, need_of}
+use Rattle.lf_config.specs.Key.{all_keys, level_keys, level_name, need_of, limits_of, entries_most}
+use Rattle.lf_rules.specs.declared.shape.Below as shapes
+use Rattle.lf_config.specs.declared.key.Limits.TheVariants.{Between}
+use Rattle.lf_rules.specs.declared.shape.Below.TheVariants.{LevelTwo, Outside}
+use Rattle.lf_rules.specs.declared.shape.Grain.TheVariants.{Byte, Line}
 use Rattle.lf_config.specs.Unknown.{first_unknown}
 use Rattle.lf_rules.specs.Fits.{is_block_size, is_factor}
 use Rattle.lf_config.specs.Lookup.{level_at, value_at}
 use Rattle.lf_config.specs.Rules.{is_between, is_size_of_block, is_number_of_blocks, is_missing, is_misfit}
-use Rattle.lf_config.specs.Rules.{is_out_of_range}
+use Rattle.lf_config.specs.Rules.{is_out_of_range, is_within, is_text, is_grain, below_at, has_level}
 use Rattle.lf_config.specs.Rules.{is_required, is_needed, organisation_at, first_missing, first_misfit}
 use Rattle.lf_config.specs.Rules.{first_out_of_range}
-use Rattle.lf_config.specs.Told.{number_of, number_at, organisation_named, level_of, shape_of}
+use Rattle.lf_config.specs.Told.{number_of, number_at, organisation_named, level_of, level_below, factor_over}
+use Rattle.lf_config.specs.Told.{grain_at, shape_of}
 use Rattle.lf_config.specs.declared.fault.ConfigFault.{ConfigFault}
 use Rattle.lf_config.specs.Configuration.{unknown, missing, kind, range, ◌otherwise◌, said_by, Answers}
-use Rattle.lf_rules.specs.InRange.{IsFrom, IsOrganisation, IsLevel, IsShape}
+use Rattle.lf_rules.specs.InRange.{IsFrom, most_entries, IsOrganisation, IsLevel, IsShape}
 
 -- what is not found holds of no key
 none_found : (p : Key → Bool) (ks : List Key) → find p ks ≡ None → AllByRecursion (λ k. p k ≡ false) ks
@@ -54,16 +59,22 @@ of_level P w others h = (part, h.0, h.1.1.1.1.1.1)
     part Registers = h.1.1.1.1.0
     part Entries = h.1.1.1.1.1.0
 
+-- the keys behind those of the levels
+abbrev last_keys : List Key
+last_keys = Blocks ∷ Below ∷ Dirty ∷ []
+
 of_key : (P : Key → Type 0) → AllByRecursion P all_keys → (k : Key) → P k
 of_key P h Ports = h.0
 of_key P h Banks = h.1.0
 of_key P h Block = h.1.1.0
 of_key P h Tags = h.1.1.1.0
-of_key P h (Table One) = (of_level P One (level_keys Two (Blocks ∷ [])) h.1.1.1.1).1
-of_key P h (Of One p) = (of_level P One (level_keys Two (Blocks ∷ [])) h.1.1.1.1).0 p
-of_key P h (Table Two) = (of_level P Two (Blocks ∷ []) (of_level P One (level_keys Two (Blocks ∷ [])) h.1.1.1.1).2).1
-of_key P h (Of Two p) = (of_level P Two (Blocks ∷ []) (of_level P One (level_keys Two (Blocks ∷ [])) h.1.1.1.1).2).0 p
-of_key P h Blocks = (of_level P Two (Blocks ∷ []) (of_level P One (level_keys Two (Blocks ∷ [])) h.1.1.1.1).2).2.0
+of_key P h (Table One) = (of_level P One (level_keys Two last_keys) h.1.1.1.1).1
+of_key P h (Of One p) = (of_level P One (level_keys Two last_keys) h.1.1.1.1).0 p
+of_key P h (Table Two) = (of_level P Two last_keys (of_level P One (level_keys Two last_keys) h.1.1.1.1).2).1
+of_key P h (Of Two p) = (of_level P Two last_keys (of_level P One (level_keys Two last_keys) h.1.1.1.1).2).0 p
+of_key P h Blocks = (of_level P Two last_keys (of_level P One (level_keys Two last_keys) h.1.1.1.1).2).2.0
+of_key P h Below = (of_level P Two last_keys (of_level P One (level_keys Two last_keys) h.1.1.1.1).2).2.1.0
+of_key P h Dirty = (of_level P Two last_keys (of_level P One (level_keys Two last_keys) h.1.1.1.1).2).2.1.1.0
 
 -- no key breaks a rule
 pub record IsClean (ms : Members) : Type 0 where
@@ -155,59 +166,114 @@ there_if_required ms k clean required = go (is_none (value_at ms k)) (is_require
 
 -- ---- one level
 
--- the table of a level is there
-level_there : (ms : Members) (w : LevelKey) → IsClean ms → is_some (level_at ms w) ≡ true
-level_there ms w clean = go (get_member (level_name w) ms) (there_if_required ms (Table w) clean refl)
+turned : (b : Bool) → not b ≡ false → b ≡ true
+turned true h = refl
+turned false h = let bad = h in cc
+
+-- the table of a level that the cache has is there
+level_there : (ms : Members) (w : LevelKey) → has_level (below_at ms) w ≡ true → IsClean ms →
+    is_some (level_at ms w) ≡ true
+level_there ms w has clean = go (get_member (level_name w) ms) (there_if_required ms (Table w) clean has)
     (clean.misfit (Table w))
   where
     go : (o : Option Data) → is_none o ≡ false → option_map_or (λ d. not (is_some (as_table d))) o false ≡ false →
         is_some (option_and_then as_table o) ≡ true
     go None there sort = let bad = there in cc
     go (Some d) there sort = turned (is_some (as_table d)) sort
-      where
-        turned : (b : Bool) → not b ≡ false → b ≡ true
-        turned true h = refl
-        turned false h = let bad = h in cc
 
 -- a number of a level
-part_there : (ms : Members) (w : LevelKey) (p : Part) → IsClean ms →
+part_there : (ms : Members) (w : LevelKey) (p : Part) → has_level (below_at ms) w ≡ true → IsClean ms →
     is_needed (need_of (Of w p)) (organisation_at ms w) ≡ true → is_none (value_at ms (Of w p)) ≡ false
-part_there ms w p clean needed = there_if_required ms (Of w p) clean (rw (level_there ms w clean) needed)
+part_there ms w p has clean needed =
+    there_if_required ms (Of w p) clean (rw has (rw (level_there ms w has clean) needed))
 
-organisation_in : (ms : Members) (w : LevelKey) → IsClean ms →
-    IsOrganisation (organisation_named ms w (organisation_at ms w))
-organisation_in ms w clean = go (organisation_at ms w) refl
+most_small : (b : shapes.Below) (w : LevelKey) → entries_most b w < 2 ^ 32
+most_small LevelTwo One = omega arith
+most_small Outside One = omega arith
+most_small b Two = omega arith
+
+organisation_in : (ms : Members) (w : LevelKey) (most : ℕ) → entries_most (below_at ms) w ≡ most → most < 2 ^ 32 →
+    has_level (below_at ms) w ≡ true → IsClean ms → IsOrganisation most (organisation_named ms w (organisation_at ms w))
+organisation_in ms w most is_most small has clean = go (organisation_at ms w) refl
   where
-    go : (o : Option (List ℕ)) → organisation_at ms w ≡ o → IsOrganisation (organisation_named ms w o)
+    go : (o : Option (List ℕ)) → organisation_at ms w ≡ o → IsOrganisation most (organisation_named ms w o)
     go None e = tt
     go (Some text) e = named (bytes_eq text (codes "implicit")) (bytes_eq text (codes "explicit")) refl refl
       where
         registers_in : is_needed UnlessInverted (Some text) ≡ true → IsFrom 1 64 (number_at ms (Of w Registers))
         registers_in needed = number_in (value_at ms (Of w Registers)) 1 64 (omega arith)
-            (part_there ms w Registers clean (rw e needed))
+            (part_there ms w Registers has clean (rw e needed))
             (clean.misfit (Of w Registers)) (clean.out_of_range (Of w Registers))
 
-        entries_in : is_needed IfExplicit (Some text) ≡ true → IsFrom 1 8 (number_at ms (Of w Entries))
-        entries_in needed = number_in (value_at ms (Of w Entries)) 1 8 (omega arith)
-            (part_there ms w Entries clean (rw e needed)) (clean.misfit (Of w Entries))
-            (clean.out_of_range (Of w Entries))
+        entries_in : is_needed IfExplicit (Some text) ≡ true → IsFrom 1 most (number_at ms (Of w Entries))
+        entries_in needed = number_in (value_at ms (Of w Entries)) 1 most small
+            (part_there ms w Entries has clean (rw e needed)) (clean.misfit (Of w Entries))
+            (subst (λ n. option_map_or (λ d. not (is_within (Between 1 n) d)) (value_at ms (Of w Entries)) false
+            ≡ false) is_most (clean.out_of_range (Of w Entries)))
 
         named : (a b : Bool) → bytes_eq text (codes "implicit") ≡ a → bytes_eq text (codes "explicit") ≡ b
-            → IsOrganisation (if a then Implicit (number_at ms (Of w Registers)) else if b then Explicit
+            → IsOrganisation most (if a then Implicit (number_at ms (Of w Registers)) else if b then Explicit
             (number_at ms (Of w Registers)) (number_at ms (Of w Entries)) else Inverted)
         named true b p q = registers_in (let t = (bytes_eq-Decides text (codes "implicit")).0 p in rw t refl)
         named false true p q = let t = (bytes_eq-Decides text (codes "explicit")).0 q in
             (registers_in (rw t refl), entries_in (rw t refl))
         named false false p q = tt
 
-level_in : (ms : Members) (w : LevelKey) → IsClean ms → IsLevel (level_of ms w)
-level_in ms w clean = record {
-  sets = number_in (value_at ms (Of w Sets)) 1 4096 (omega arith) (part_there ms w Sets clean refl)
+level_in : (ms : Members) (w : LevelKey) → has_level (below_at ms) w ≡ true → IsClean ms →
+    IsLevel (entries_most (below_at ms) w) (level_of ms w)
+level_in ms w has clean = record {
+  sets = number_in (value_at ms (Of w Sets)) 1 4096 (omega arith) (part_there ms w Sets has clean refl)
       (clean.misfit (Of w Sets)) (clean.out_of_range (Of w Sets));
-  ways = number_in (value_at ms (Of w Ways)) 1 16 (omega arith) (part_there ms w Ways clean refl)
+  ways = number_in (value_at ms (Of w Ways)) 1 16 (omega arith) (part_there ms w Ways has clean refl)
       (clean.misfit (Of w Ways)) (clean.out_of_range (Of w Ways));
-  organisation = organisation_in ms w clean;
+  organisation = organisation_in ms w (entries_most (below_at ms) w) refl (most_small (below_at ms) w) has clean;
 }
+
+has_one : (b : shapes.Below) → has_level b One ≡ true
+has_one LevelTwo = refl
+has_one Outside = refl
+
+one_in : (ms : Members) → IsClean ms → IsLevel (most_entries (below_at ms)) (level_of ms One)
+one_in ms clean = level_in ms One (has_one (below_at ms)) clean
+
+-- the level in the place of level two
+below_in : (ms : Members) → IsClean ms → IsLevel (most_entries (below_at ms)) (level_below (below_at ms) ms)
+below_in ms clean = go (below_at ms) refl
+  where
+    go : (b : shapes.Below) → below_at ms ≡ b → IsLevel (most_entries b) (level_below b ms)
+    go LevelTwo e = level_in ms Two (ap (λ b. has_level b Two) e) clean
+    go Outside e = subst (λ b. IsLevel (most_entries b) (level_of ms One)) e (one_in ms clean)
+
+factor_over_in : (ms : Members) → IsClean ms → is_factor (factor_over (below_at ms) ms) ≡ true
+factor_over_in ms clean = go (below_at ms)
+  where
+    go : (b : shapes.Below) → is_factor (factor_over b ms) ≡ true
+    go LevelTwo = factor_in (value_at ms Blocks) (clean.misfit Blocks) (clean.out_of_range Blocks)
+    go Outside = refl
+
+factor_alone : (ms : Members) (b : shapes.Below) → b ≡ Outside → factor_over b ms ≡ 1
+factor_alone ms LevelTwo e = cc
+factor_alone ms Outside e = refl
+
+-- a text that is `byte` is not `line`
+byte_of_text : (o : Option Data)
+    → option_map_or (λ d. not (option_map_or (is_grain LevelTwo) (as_str d) false)) o false ≡ false
+    → (if is_text (codes "line") (option_and_then as_str o) then Line else Byte) ≡ Byte
+byte_of_text None within = refl
+byte_of_text (Some (string t)) within =
+    let e = (bytes_eq-Decides t (codes "byte")).0 (turned (bytes_eq t (codes "byte")) within) in
+    rw e refl
+byte_of_text (Some (integer n)) within = refl
+byte_of_text (Some (float x)) within = refl
+byte_of_text (Some (boolean b)) within = refl
+byte_of_text (Some (datetime d)) within = refl
+byte_of_text (Some (array ds)) within = refl
+byte_of_text (Some (table ms)) within = refl
+
+grain_fine : (ms : Members) → IsClean ms → below_at ms ≡ LevelTwo → grain_at ms ≡ Byte
+grain_fine ms clean e = byte_of_text (value_at ms Dirty)
+    (subst (λ b. option_map_or (λ d. not (is_within (limits_of b Dirty) d)) (value_at ms Dirty) false ≡ false) e
+    (clean.out_of_range Dirty))
 
 shape_in : (ms : Members) → IsClean ms → IsShape (shape_of ms)
 unfolding shape_of
@@ -220,9 +286,11 @@ shape_in ms clean = record {
       (clean.out_of_range Block);
   tags = number_in (value_at ms Tags) 1 64 (omega arith) (there_if_required ms Tags clean refl) (clean.misfit Tags)
       (clean.out_of_range Tags);
-  factor = factor_in (value_at ms Blocks) (clean.misfit Blocks) (clean.out_of_range Blocks);
-  level1 = level_in ms One clean;
-  level2 = level_in ms Two clean;
+  factor = factor_over_in ms clean;
+  level1 = one_in ms clean;
+  level2 = below_in ms clean;
+  alone = factor_alone ms (below_at ms);
+  fine = grain_fine ms clean;
 }
 
 -- what a document says that breaks no rule

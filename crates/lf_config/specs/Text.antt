@@ -3,14 +3,15 @@ use Rattle.std.specs.Prelude.{ℕ, nat_le, ◌&&◌, if◌then◌else◌, List, 
 use Rattle.std.specs.List.{flat_map}
 use Rattle.lf_config.specs.declared.fault.ConfigFault.{ConfigFault}
 use Rattle.lf_config.specs.declared.fault.ConfigFault.TheVariants.{NotToml, Unknown, Missing, Kind, Range, NoMemory}
-use Rattle.lf_config.specs.declared.key.LevelKey.TheVariants.{Two}
+use Rattle.lf_config.specs.declared.key.LevelKey.TheVariants.{One, Two}
 use Rattle.lf_config.specs.declared.key.Key.{Key}
-use Rattle.lf_config.specs.declared.key.Key.TheVariants.{Of, Blocks}
-use Rattle.lf_config.specs.Key.{name_of, level_name, part_name, blocks_name}
+use Rattle.lf_config.specs.declared.key.Key.TheVariants.{Of, Blocks, Dirty}
+use Rattle.lf_config.specs.Key.{name_of, level_name, part_name, blocks_name, dirty_name}
 
 abbrev pub key_text : Key → List ℕ
 key_text (Of w p) = level_name w ++ codes "." ++ part_name p
 key_text Blocks = level_name Two ++ codes "." ++ blocks_name
+key_text Dirty = level_name One ++ codes "." ++ dirty_name
 key_text key = name_of key
 
 -- what stands for a byte of a UTF-8 text: itself from ! to ~, nothing inside a character of several bytes, and else

@@ -9,14 +9,14 @@ use Rattle.std.specs.Str.{bytes_eq}
 use Rattle.toml.specs.Data.{Members, no_members, member}
 use Rattle.lf_config.specs.declared.key.LevelKey.{LevelKey}
 use Rattle.lf_config.specs.declared.key.LevelKey.TheVariants.{One, Two}
-use Rattle.lf_config.specs.Key.{level_name, blocks_name}
+use Rattle.lf_config.specs.Key.{level_name, blocks_name, dirty_name}
 use Rattle.lf_config.specs.Lookup.{level_at}
 
 abbrev pub is_top_name : List ℕ → Bool
 is_top_name name =
     bytes_eq name (codes "ports") || bytes_eq name (codes "banks") || bytes_eq name (codes "block")
     || bytes_eq name (codes "tags")
-    || bytes_eq name (codes "level1") || bytes_eq name (codes "level2")
+    || bytes_eq name (codes "level1") || bytes_eq name (codes "level2") || bytes_eq name (codes "below")
 
 abbrev pub is_part_name : List ℕ → Bool
 is_part_name name =
@@ -26,7 +26,7 @@ is_part_name name =
 -- may the table of a level, or the document itself, have a key of this name?
 abbrev pub is_known : Option LevelKey → List ℕ → Bool
 is_known None name = is_top_name name
-is_known (Some One) name = is_part_name name
+is_known (Some One) name = is_part_name name || bytes_eq name dirty_name
 is_known (Some Two) name = is_part_name name || bytes_eq name blocks_name
 
 abbrev pub names_of : Members → List (List ℕ)

@@ -1,7 +1,9 @@
 //! The keys of a configuration, and what is asked of each.
 
 ghost use Rattle.std.specs.Prelude.{◌≡◌};
-ghost use Rattle.lf_config.specs.Key.{name_of, level_name, part_name, sort_of, limits_of, need_of};
+ghost use Rattle.lf_config.specs.Key.{name_of, level_name, part_name, sort_of, entries_most, limits_of, need_of};
+
+use lf_rules::Below;
 
 /// A level of the hierarchy.
 #[derive(Clone, Copy, Debug, PartialEq, Eq)]
@@ -33,6 +35,10 @@ pub enum Key {
     Of(LevelKey, Part),
     /// The blocks of level one in one of level two. Only level two's table has this key.
     Blocks,
+    /// What is below level one.
+    Below,
+    /// What a store makes dirty of its line. Only level one's table has this key.
+    Dirty,
 }
 
 /// What a value has to be.
@@ -54,6 +60,10 @@ pub(crate) enum Limits {
     Factor,
     /// The three names of an organisation.
     Organisation,
+    /// The two names of what is below level one.
+    Below,
+    /// The names of what a store makes dirty over this.
+    Grain(Below),
     Any,
 }
 
@@ -69,7 +79,7 @@ pub(crate) enum Need {
 }
 
 /// The keys, in the order in which their faults are told.
-pub(crate) const KEYS: [Key; 17] = [
+pub(crate) const KEYS: [Key; 19] = [
     Key::Ports,
     Key::Banks,
     Key::Block,
@@ -87,6 +97,8 @@ pub(crate) const KEYS: [Key; 17] = [
     Key::Of(LevelKey::Two, Part::Registers),
     Key::Of(LevelKey::Two, Part::Entries),
     Key::Blocks,
+    Key::Below,
+    Key::Dirty,
 ];
 
 impl LevelKey {
@@ -116,6 +128,16 @@ impl Part {
     }
 }
 
+/// How many entries a register of a level has at most.
+fn entries_most(below: Below, which: LevelKey) -> u32
+    ensures { result ≡ entries_most below which }
+{
+    match (below, which) {
+        (Below::Outside, LevelKey::One) => 64,
+        _ => 8,
+    }
+}
+
 impl Key {
     /// The name in its own table.
     pub(crate) fn name(self) -> &'static str
@@ -129,6 +151,8 @@ impl Key {
             Key::Table(which) => which.name(),
             Key::Of(_, part) => part.name(),
             Key::Blocks => "blocks",
+            Key::Below => "below",
+            Key::Dirty => "dirty",
         }
     }
 
@@ -138,14 +162,14 @@ impl Key {
     {
         match self {
             Key::Table(_) => Sort::Table,
-            Key::Of(_, Part::Organisation) => Sort::Text,
+            Key::Of(_, Part::Organisation) | Key::Below | Key::Dirty => Sort::Text,
             _ => Sort::Integer,
         }
     }
 
-    /// Which values are allowed.
-    pub(crate) fn limits(self) -> Limits
-        ensures { result ≡ limits_of self }
+    /// Which values are allowed, over what is below level one.
+    pub(crate) fn limits(self, below: Below) -> Limits
+        ensures { result ≡ limits_of below self }
     {
         match self {
             Key::Ports | Key::Banks => Limits::Between(1, 16),
@@ -156,8 +180,10 @@ impl Key {
             Key::Of(_, Part::Ways) => Limits::Between(1, 16),
             Key::Of(_, Part::Organisation) => Limits::Organisation,
             Key::Of(_, Part::Registers) => Limits::Between(1, 64),
-            Key::Of(_, Part::Entries) => Limits::Between(1, 8),
+            Key::Of(which, Part::Entries) => Limits::Between(1, entries_most(below, which)),
             Key::Blocks => Limits::Factor,
+            Key::Below => Limits::Below,
+            Key::Dirty => Limits::Grain(below),
         }
     }
 
@@ -168,7 +194,7 @@ impl Key {
         match self {
             Key::Of(_, Part::Registers) => Need::UnlessInverted,
             Key::Of(_, Part::Entries) => Need::IfExplicit,
-            Key::Blocks => Need::Never,
+            Key::Blocks | Key::Below | Key::Dirty => Need::Never,
             _ => Need::Always,
         }
     }

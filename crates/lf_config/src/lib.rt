@@ -1,7 +1,7 @@
 //! Reads the configuration of a hierarchy from a TOML document.
 //!
 //! What a text says is `configuration_of` of `specs/Configuration.antt`: a shape, or the first fault.
-//! No key but `level2.blocks` has a default, and none that is not known is passed over.
+//! No keys but `level2.blocks`, `below` and `level1.dirty` have a default, and none that is not known is passed over.
 #![tactic(auto)]
 
 mod fault;

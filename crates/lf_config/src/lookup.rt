@@ -3,7 +3,7 @@
 ghost use Rattle.std.specs.Prelude.{◌≡◌, option_map, option_and_then};
 ghost use Rattle.toml.specs.Data.{get_member};
 ghost use Rattle.toml.specs.View.{view, table_view};
-ghost use Rattle.lf_config.specs.Lookup.{level_at, value_at};
+ghost use Rattle.lf_config.specs.Lookup.{level_at, value_at, text_at};
 
 use crate::key::{Key, LevelKey};
 use toml::{Table, Value};
@@ -42,6 +42,17 @@ pub(crate) fn value<'a>(table: &'a Table, key: Key) -> Option<&'a Value>
     match key {
         Key::Of(which, part) => entry_of(table, which, part.name()),
         Key::Blocks => entry_of(table, LevelKey::Two, key.name()),
+        Key::Dirty => entry_of(table, LevelKey::One, key.name()),
         _ => entry(table, key.name()),
+    }
+}
+
+/// The text of a key, where its value is one.
+pub(crate) fn text<'a>(table: &'a Table, key: Key) -> Option<&'a str>
+    ensures { option_map (λ s. s.now) result ≡ text_at (table_view table.now) key }
+{
+    match value(table, key) {
+        Some(value) => value.as_str(),
+        None => None,
     }
 }

@@ -3,13 +3,15 @@
 ghost use Rattle.std.specs.Prelude.{◌≡◌, option_map};
 ghost use Rattle.toml.specs.View.{view, table_view};
 ghost use Rattle.lf_config.specs.Rules.{is_between, is_size_of_block, is_number_of_blocks, is_organisation};
+ghost use Rattle.lf_config.specs.Rules.{is_below, is_grain, below_at, has_level};
 ghost use Rattle.lf_config.specs.Rules.{is_needed, has_sort, is_within};
 ghost use Rattle.lf_config.specs.Rules.{organisation_at, is_required, is_missing, is_misfit, is_out_of_range};
 ghost use Rattle.lf_config.specs.Rules.{first_missing, first_misfit};
 ghost use Rattle.lf_config.specs.Rules.{first_out_of_range};
 
 use crate::key::{KEYS, Key, LevelKey, Limits, Need, Part, Sort};
-use crate::lookup::{level, value};
+use crate::lookup::{level, text, value};
+use lf_rules::Below;
 use toml::{Table, Value};
 
 fn is_between(low: u32, high: u32, number: i64) -> bool
@@ -37,6 +39,21 @@ fn is_organisation_name(text: &str) -> bool
     ensures { result ≡ is_organisation text.now }
 {
     text == "implicit" || text == "explicit" || text == "inverted"
+}
+
+fn is_below_name(text: &str) -> bool
+    ensures { result ≡ is_below text.now }
+{
+    text == "level2" || text == "outside"
+}
+
+fn is_grain_name(below: Below, text: &str) -> bool
+    ensures { result ≡ is_grain below text.now }
+{
+    match below {
+        Below::LevelTwo => text == "byte",
+        Below::Outside => text == "byte" || text == "line",
+    }
 }
 
 fn is_of_sort(value: &Value, sort: Sort) -> bool
@@ -69,6 +86,14 @@ fn is_allowed(value: &Value, limits: Limits) -> bool
             Some(text) => is_organisation_name(text),
             None => false,
         },
+        Limits::Below => match value.as_str() {
+            Some(text) => is_below_name(text),
+            None => false,
+        },
+        Limits::Grain(below) => match value.as_str() {
+            Some(text) => is_grain_name(below, text),
+            None => false,
+        },
         Limits::Any => true,
     }
 }
@@ -77,9 +102,25 @@ fn is_allowed(value: &Value, limits: Limits) -> bool
 pub(crate) fn organisation<'a>(table: &'a Table, which: LevelKey) -> Option<&'a str>
     ensures { option_map (λ s. s.now) result ≡ organisation_at (table_view table.now) which }
 {
-    match value(table, Key::Of(which, Part::Organisation)) {
-        Some(value) => value.as_str(),
-        None => None,
+    text(table, Key::Of(which, Part::Organisation))
+}
+
+/// What is below level one.
+pub(crate) fn below(table: &Table) -> Below
+    ensures { result ≡ below_at (table_view table.now) }
+{
+    match text(table, Key::Below) {
+        Some("outside") => Below::Outside,
+        _ => Below::LevelTwo,
+    }
+}
+
+fn has_level(below: Below, which: LevelKey) -> bool
+    ensures { result ≡ has_level below which }
+{
+    match (below, which) {
+        (Below::Outside, LevelKey::Two) => false,
+        _ => true,
     }
 }
 
@@ -100,8 +141,11 @@ fn is_required(table: &Table, key: Key) -> bool
     ensures { result ≡ is_required (table_view table.now) key }
 {
     match key {
+        Key::Table(which) => has_level(below(table), which),
         Key::Of(which, _) => {
-            level(table, which).is_some() && is_needed(key.need(), organisation(table, which))
+            has_level(below(table), which)
+                && level(table, which).is_some()
+                && is_needed(key.need(), organisation(table, which))
         }
         _ => is_needed(key.need(), None),
     }
@@ -126,7 +170,7 @@ fn is_out_of_range(table: &Table, key: Key) -> bool
     ensures { result ≡ is_out_of_range (table_view table.now) key }
 {
     match value(table, key) {
-        Some(value) => !is_allowed(value, key.limits()),
+        Some(value) => !is_allowed(value, key.limits(below(table))),
         None => false,
     }
 }

@@ -18,6 +18,7 @@ impl fmt::Display for Key {
                 write!(f, "{level}.{name}")
             }
             Key::Blocks => write!(f, "level2.{name}"),
+            Key::Dirty => write!(f, "level1.{name}"),
             _ => write!(f, "{name}"),
         }
     }

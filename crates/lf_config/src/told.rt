@@ -6,11 +6,12 @@ ghost use Rattle.toml.specs.Data.{as_integer};
 ghost use Rattle.toml.specs.View.{view, table_view};
 ghost use Rattle.lf_config.specs.Rules.{organisation_at};
 ghost use Rattle.lf_config.specs.Told.{number_of, number_at, factor_at, organisation_named, level_of, shape_of};
+ghost use Rattle.lf_config.specs.Told.{factor_over, level_below, grain_at};
 
 use crate::key::{Key, LevelKey, Part};
-use crate::lookup::value;
-use crate::rules::organisation;
-use lf_rules::{Level, OrgShape, Shape};
+use crate::lookup::{text, value};
+use crate::rules::{below, organisation};
+use lf_rules::{Below, Grain, Level, OrgShape, Shape};
 use toml::{Table, Value};
 
 fn number_of(value: &Value) -> u32
@@ -63,17 +64,48 @@ fn level_shape(table: &Table, which: LevelKey) -> Level
     }
 }
 
+fn factor_over(below: Below, table: &Table) -> u32
+    ensures { result ≡ factor_over below (table_view table.now) }
+{
+    match below {
+        Below::LevelTwo => factor(table),
+        Below::Outside => 1,
+    }
+}
+
+// By itself a cache has level one in the place of level two, so that the shape is in its ranges.
+fn level_below(below: Below, table: &Table) -> Level
+    ensures { result ≡ level_below below (table_view table.now) }
+{
+    match below {
+        Below::LevelTwo => level_shape(table, LevelKey::Two),
+        Below::Outside => level_shape(table, LevelKey::One),
+    }
+}
+
+fn grain(table: &Table) -> Grain
+    ensures { result ≡ grain_at (table_view table.now) }
+{
+    match text(table, Key::Dirty) {
+        Some("line") => Grain::Line,
+        _ => Grain::Byte,
+    }
+}
+
 #[tactic(auto, unfolding(crate::specs::Told::shape_of))]
 pub(crate) fn shape(table: &Table) -> Shape
     ensures { result ≡ shape_of (table_view table.now) }
 {
+    let below = below(table);
     Shape {
         ports: number(table, Key::Ports),
         banks: number(table, Key::Banks),
         block: number(table, Key::Block),
         tags: number(table, Key::Tags),
-        factor: factor(table),
+        factor: factor_over(below, table),
         level1: level_shape(table, LevelKey::One),
-        level2: level_shape(table, LevelKey::Two),
+        level2: level_below(below, table),
+        below,
+        grain: grain(table),
     }
 }

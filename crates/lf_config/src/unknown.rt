@@ -21,6 +21,7 @@ fn is_top(name: &str) -> bool
         || name == "tags"
         || name == "level1"
         || name == "level2"
+        || name == "below"
 }
 
 fn is_part(name: &str) -> bool
@@ -38,7 +39,7 @@ fn is_known(level: Option<LevelKey>, name: &str) -> bool
     ensures { result ≡ is_known level name.now }
 {
     match level {
-        Some(LevelKey::One) => is_part(name),
+        Some(LevelKey::One) => is_part(name) || name == "dirty",
         Some(LevelKey::Two) => is_part(name) || name == "blocks",
         None => is_top(name),
     }

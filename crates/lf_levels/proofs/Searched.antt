@@ -209,14 +209,19 @@ module _ {M : Type 0} {set : ℕ → ℕ → ℕ → ℕ → ℕ} {is_line : ℕ
             (whole-set is.whole block way on_way dirty has);
       }
 
+      -- this is what is dirty of the line in the way from now on
+      pub replaced_table : (dirty : M) → table_of sets ways banks factor
+          (lines_of (rows_of keys (slice_set dirties way dirty))) ≡ after_fill table block dirty
+      replaced_table dirty = filled dirty (rows_of keys (slice_set dirties way dirty)) (ap lines_of (set_rows dirty)
+          ∙ lines-set is.whole block way on_way dirty)
+
       -- what is dirty of the line in the way changes
       pub changed_table : (was : M) → was ≡ get_or dirties way was → (change : M → M) (clean dirty : M)
           → dirty ≡ change was → table_of sets ways banks factor
           (lines_of (rows_of keys (slice_set dirties way dirty)))
           ≡ after_fill table block (change (unwrap_or (line_at table.lines block) clean))
       changed_table was e change clean dirty changed =
-          filled dirty (rows_of keys (slice_set dirties way dirty)) (ap lines_of (set_rows dirty) ∙ lines-set
-          is.whole block way on_way dirty)
+          replaced_table dirty
           ∙ ap (after_fill table block) (changed ∙ ap change
           (sym (ap (λ (o : Option M). unwrap_or o clean) (line_found was e))))
 

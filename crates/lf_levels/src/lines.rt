@@ -163,6 +163,20 @@ impl<L: Level> Lines<L> {
         self.dirty.set(way, &dirty);
     }
 
+    /// This is what is dirty of the block's line from now on.
+    pub(crate) fn replace(&mut self, block: u32, dirty: &L::Dirty)
+        requires there { has_line self.old.lines block ≡ true }
+        requires masks { L.is_line self.old.factor dirty.now ≡ true }
+        ensures replaced { self.new ≡ after_fill self.old block dirty.now }
+        ensures here { ChangesOnly self.old self.new block (Some dirty.now) }
+    {
+        let row = self.row(block);
+        let Some(way) = find_line(&self.keys, row, self.ways as usize, block) else {
+            unreachable!()
+        };
+        self.dirty.set(way, dirty);
+    }
+
     /// The block's line goes, where this is what is dirty of it.
     pub(crate) fn take_out(&mut self, block: u32, dirty: &L::Dirty) -> Result<(), LineFault>
         ensures there { IfOk result (λ _. has_line self.old.lines block ≡ true) }

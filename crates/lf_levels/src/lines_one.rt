@@ -46,6 +46,15 @@ impl Lines<One> {
         self.gain(block, &mask.0);
     }
 
+    /// The dirty mask of the block's line is this from now on.
+    pub fn set(&mut self, block: u32, mask: Mask)
+        requires { has_line self.old.lines block ≡ true }
+        ensures set { self.new ≡ after_fill self.old block mask.0 }
+        ensures here { ChangesOnly self.old self.new block (Some mask.0) }
+    {
+        self.replace(block, &mask.0);
+    }
+
     /// The block's line goes, where the mask is its dirty mask. `EvictAbsent` where no line is on the
     /// block; `EvictMask` where there is one with another mask.
     pub fn evict(&mut self, block: u32, mask: Mask) -> Result<(), LineFault>

@@ -12,6 +12,7 @@ mod NoneBusy
 mod Ordered
 mod PackedPlaces
 mod Placing
+mod PortClauses
 mod PortRun
 mod PortSteps
 mod Reading

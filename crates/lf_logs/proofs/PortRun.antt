@@ -6,7 +6,8 @@ use Rattle.lf_rules.specs.declared.shape.Shape.{Shape}
 use Rattle.lf_rules.specs.declared.event.Record.{Record}
 use Rattle.lf_rules.specs.declared.rule.Rule.{Rule}
 use Rattle.lf_rules.specs.State.{Local}
-use Rattle.lf_rules.specs.Table.{OfPort, clauses}
+use Rattle.lf_rules.specs.Table.{OfPort}
+use Rattle.lf_rules.specs.Step.{step_clauses}
 use Rattle.lf_rules.specs.Run.{first_failing, effect, IsRunOf, BreaksAt}
 
 -- what the records from place `at` on do, seen from `now`, all of them do, seen from `start`
@@ -27,7 +28,7 @@ GoesOn-start shape start now rs e = record {
 -- the record at `at` breaks no rule
 pub GoesOn-more : (shape : Shape) (start now next : Local) (rs : List Record) (at : ℕ) (r : Record) →
     GoesOn shape start now rs at →
-    at < length rs → r ≡ get_or rs at r → None ≡ first_failing OfPort (clauses shape now r) →
+    at < length rs → r ≡ get_or rs at r → None ≡ first_failing OfPort (step_clauses shape now r) →
     effect OfPort shape now r ≡ next →
     GoesOn shape start next rs (at + 1)
 GoesOn-more shape start now next rs at r before inside read passes moves =
@@ -47,7 +48,7 @@ GoesOn-more shape start now next rs at r before inside read passes moves =
 -- the record at `at` breaks a rule
 pub GoesOn-broken : (shape : Shape) (start now : Local) (rs : List Record) (at : ℕ) (r : Record) (rule : Rule) →
     GoesOn shape start now rs at →
-    at < length rs → r ≡ get_or rs at r → Some rule ≡ first_failing OfPort (clauses shape now r) →
+    at < length rs → r ≡ get_or rs at r → Some rule ≡ first_failing OfPort (step_clauses shape now r) →
     BreaksAt OfPort shape start rs at rule
 GoesOn-broken shape start now rs at r rule before inside read breaks =
     let split : drop at rs ≡ r ∷ drop (at + 1) rs = drop_more rs at r inside

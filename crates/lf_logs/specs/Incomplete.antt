@@ -5,12 +5,13 @@ use Rattle.std.specs.List.{range_with_len}
 use Rattle.std.specs.Fmt.{decimal}
 use Rattle.lf_rules.specs.declared.event.Record.{Record}
 use Rattle.lf_rules.specs.declared.event.Event.{Event}
-use Rattle.lf_rules.specs.declared.event.Event.TheVariants.{Issue, Reply}
+use Rattle.lf_rules.specs.declared.event.Event.TheVariants.{Issue, Reply, Masked}
 use Rattle.lf_logs.specs.declared.incomplete.Incomplete.{Incomplete}
 
 -- whether the tag waits for a reply: its last event is an issue
 abbrev pub waits_after : ℕ → Bool → Event → Bool
 waits_after t waits (Issue op tag size address bytes) = if tag == t then true else waits
+waits_after t waits (Masked op tag block mask bytes) = if tag == t then true else waits
 waits_after t waits (Reply tag size bytes) = if tag == t then false else waits
 waits_after t waits _ = waits
 

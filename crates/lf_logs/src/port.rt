@@ -1,14 +1,16 @@
 //! The rules of a port's log. They look at nothing but which tags are busy.
 
 ghost use Rattle.std.specs.Prelude.{◌≡◌, ◌≢◌, ◌≤◌, ◌^◌, length, None, slice_index_or, count_by, is_some};
+ghost use Rattle.lf_rules.specs.Step.{step_clauses};
 ghost use Rattle.lf_rules.specs.declared.outcome.Outcome.{Outcome};
 ghost use Rattle.lf_rules.specs.Outcomes.{IsPortOutcome};
 ghost use Rattle.lf_rules.specs.State.{Local, idle};
-ghost use Rattle.lf_rules.specs.Table.{OfPort, clauses, none_busy};
+ghost use Rattle.lf_rules.specs.Table.{OfPort, none_busy};
 ghost use Rattle.lf_rules.specs.Run.{first_failing, effect};
-ghost use Rattle.lf_logs.specs.Tags.{with_tags, IsLowestBusy};
+ghost use Rattle.lf_logs.specs.Tags.{with_tags, tag_at, issue_clauses, reply_clauses, fence_clauses, masked_clauses};
+ghost use Rattle.lf_logs.specs.Tags.{IsLowestBusy};
 
-use lf_rules::{Outcome, Record, Rule, Shape};
+use lf_rules::{Below, Outcome, Record, Rule, Shape};
 use trace_views::{EventView, RecordView};
 
 /// A tag is a byte, whatever the shape allows of it.
@@ -63,37 +65,64 @@ impl BusyTags {
         self.owed_by.iter().filter(|owed| owed.is_some()).count() as u32
     }
 
+    /// The first rule of the port that an issue breaks.
+    fn issue_fault(&self, shape: &Shape, tag: u8) -> Option<Rule>
+        ensures { result ≡ first_failing OfPort (issue_clauses shape.now (tag_at self.now.owed_by) tag) }
+    {
+        if u32::from(tag) >= shape.tags {
+            Some(Rule::TagRange)
+        } else if self.owed_by[usize::from(tag)].is_some() {
+            Some(Rule::TagBusy)
+        } else {
+            None
+        }
+    }
+
+    /// The first rule of the port that a reply breaks.
+    fn reply_fault(&self, shape: &Shape, tag: u8, bank: u8) -> Option<Rule>
+        ensures { result ≡ first_failing OfPort (reply_clauses shape.now (tag_at self.now.owed_by) tag bank) }
+    {
+        if u32::from(tag) >= shape.tags {
+            Some(Rule::TagRange)
+        } else if self.owed_by[usize::from(tag)] != Some(bank) {
+            Some(Rule::NotOutstanding)
+        } else {
+            None
+        }
+    }
+
+    /// The rule of the port that a fence breaks.
+    fn fence_fault(&self, shape: &Shape) -> Option<Rule>
+        ensures { result ≡ first_failing OfPort (fence_clauses shape.now (tag_at self.now.owed_by)) }
+    {
+        if self.none_busy(shape.tags) {
+            None
+        } else {
+            Some(Rule::FenceBusy)
+        }
+    }
+
+    /// The first rule of the port that a masked request breaks. Only a cache by itself takes one.
+    fn masked_fault(&self, shape: &Shape, tag: u8) -> Option<Rule>
+        ensures { result ≡ first_failing OfPort
+            (masked_clauses shape.now.below shape.now (tag_at self.now.owed_by) tag) }
+    {
+        match shape.below {
+            Below::LevelTwo => Some(Rule::OutsideHeld),
+            Below::Outside => self.issue_fault(shape, tag),
+        }
+    }
+
     /// The first rule of the port that the record breaks.
     pub(crate) fn failing(&self, shape: &Shape, item: &RecordView<'_>) -> Option<Rule>
         ensures { (now : Local) → result ≡ first_failing OfPort
-            (clauses shape.now (with_tags now self.now.owed_by) item.now) }
+            (step_clauses shape.now (with_tags now self.now.owed_by) item.now) }
     {
         match item.event() {
-            EventView::Issue { tag, .. } => {
-                if u32::from(*tag) >= shape.tags {
-                    Some(Rule::TagRange)
-                } else if self.owed_by[usize::from(*tag)].is_some() {
-                    Some(Rule::TagBusy)
-                } else {
-                    None
-                }
-            }
-            EventView::Reply { tag, .. } => {
-                if u32::from(*tag) >= shape.tags {
-                    Some(Rule::TagRange)
-                } else if self.owed_by[usize::from(*tag)] != Some(item.bank()) {
-                    Some(Rule::NotOutstanding)
-                } else {
-                    None
-                }
-            }
-            EventView::Fence => {
-                if self.none_busy(shape.tags) {
-                    None
-                } else {
-                    Some(Rule::FenceBusy)
-                }
-            }
+            EventView::Issue { tag, .. } => self.issue_fault(shape, *tag),
+            EventView::Reply { tag, .. } => self.reply_fault(shape, *tag, item.bank()),
+            EventView::Fence => self.fence_fault(shape),
+            EventView::Masked { tag, .. } => self.masked_fault(shape, *tag),
             _ => None,
         }
     }
@@ -104,7 +133,9 @@ impl BusyTags {
             ≡ with_tags now self.new.owed_by }
     {
         match item.event() {
-            EventView::Issue { tag, .. } => self.owed_by[usize::from(*tag)] = Some(item.bank()),
+            EventView::Issue { tag, .. } | EventView::Masked { tag, .. } => {
+                self.owed_by[usize::from(*tag)] = Some(item.bank());
+            }
             EventView::Reply { tag, .. } => self.owed_by[usize::from(*tag)] = None,
             _ => {}
         }

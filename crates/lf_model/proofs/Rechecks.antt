@@ -16,7 +16,8 @@ use Rattle.lf_model.specs.declared.outcome.Recheck.{Recheck}
 use Rattle.lf_model.specs.declared.outcome.Recheck.TheVariants.{Accepted, NotAnOrder, Broken}
 use Rattle.lf_rules.specs.Address.{FlatMemory, no_bank}
 use Rattle.lf_rules.specs.State.{State, opening, seen_by}
-use Rattle.lf_rules.specs.Table.{OfBoth, clauses}
+use Rattle.lf_rules.specs.Table.{OfBoth}
+use Rattle.lf_rules.specs.Step.{step_clauses}
 use Rattle.lf_rules.specs.Run.{first_failing, state_after, IsRunFrom, of_bank, NameTheirLogs}
 use Rattle.lf_rules.specs.Sharing.{state_after_all}
 use Rattle.lf_rules.specs.Order.{log_at, after_next, Takes}
@@ -94,7 +95,8 @@ pub record Fails (shape : Shape) (state : State) (logs : List (List Record)) (ne
   pub inside : n < length order
   pub r : Record
   pub is_next : IsNextFrom left (slice_index order n) next rs r
-  pub fails : first_failing OfBoth (clauses shape (seen_by r.log r.bank (state_after_all shape state rs)) r) ≡ Some rule
+  pub fails : first_failing OfBoth (step_clauses shape (seen_by r.log r.bank (state_after_all shape state rs)) r)
+      ≡ Some rule
 
 -- what an answer means
 abbrev Means : Shape → State → List (List Record) → (ℕ → ℕ) → ℕ → List ℕ → Recheck → Type 0
@@ -116,7 +118,7 @@ nothing_yet shape state logs next order = record {
 
 module _ (shape : Shape) (state : State) (logs : List (List Record)) (next : ℕ → ℕ) (log : ℕ) (r : Record)
     (first : log_at logs log ≡ r ∷ drop 1 (log_at logs log)) (number : is_numbered next r ≡ true)
-    (holds : first_failing OfBoth (clauses shape (seen_by r.log r.bank state) r) ≡ None) where
+    (holds : first_failing OfBoth (step_clauses shape (seen_by r.log r.bank state) r) ≡ None) where
   abbrev then : ℕ → ℕ
   then = next_after next r
 
@@ -247,7 +249,7 @@ means shape (log ∷ order) state logs next place a e =
     }
 
     fail : (r : Record) (rule : Rule) → IsNextFrom logs log next [] r →
-        first_failing OfBoth (clauses shape (seen_by r.log r.bank state) r) ≡ Some rule
+        first_failing OfBoth (step_clauses shape (seen_by r.log r.bank state) r) ≡ Some rule
         → Means shape state logs next place (log ∷ order) (Broken place rule)
     fail r rule is fails = record {
       n = 0;
@@ -263,7 +265,7 @@ means shape (log ∷ order) state logs next place a e =
 
     judge : (r : Record) (b : Bool) (o : Option Rule) → log_at logs log ≡ r ∷ drop 1 (log_at logs log) →
         is_numbered next r ≡ b
-        → first_failing OfBoth (clauses shape (seen_by r.log r.bank state) r) ≡ o
+        → first_failing OfBoth (step_clauses shape (seen_by r.log r.bank state) r) ≡ o
         → judged_at b o place (recheck_from shape (state_after shape state r) (after_next logs log)
         (next_after next r) (place + 1) order) ≡ a
         → (recheck_from shape (state_after shape state r) (after_next logs log) (next_after next r) (place + 1) order
@@ -286,7 +288,7 @@ means shape (log ∷ order) state logs next place a e =
         → ◌≡◌ {A = Recheck} (elim xs [
           | [] ↦ NotAnOrder place
           | r ∷ rest ↦ judged_at (is_numbered next r) (first_failing OfBoth
-              (clauses shape (seen_by r.log r.bank state) r)) place
+              (step_clauses shape (seen_by r.log r.bank state) r)) place
               (recheck_from shape (state_after shape state r) (after_next logs log) (next_after next r) (place + 1)
               order)
         ]) a
@@ -297,7 +299,7 @@ means shape (log ∷ order) state logs next place a e =
     go [] is e rest = subst (Means shape state logs next place (log ∷ order)) e
         (stop (λ r next_is. cons_nil (sym next_is.0 ∙ is)))
     go (r ∷ xs) is e rest = judge r (is_numbered next r) (first_failing OfBoth
-        (clauses shape (seen_by r.log r.bank state) r)) (first_of (log_at logs log) r xs is) refl refl e (rest r)
+        (step_clauses shape (seen_by r.log r.bank state) r)) (first_of (log_at logs log) r xs is) refl refl e (rest r)
 
 -- ---- from the opening state on
 
@@ -462,7 +464,7 @@ failed_is : (shape : Shape) (n : ℕ) (order : List ℕ) (rs : List Record) (lef
     (logs : List (List Record)) (next : ℕ → ℕ) (place : ℕ) (q : Record) (rule : Rule)
     → n < length order → TakesTo logs (take n order) rs left → NumbersFrom next rs → IsRunFrom shape state rs →
     IsNextFrom left (slice_index order n) next rs q
-    → first_failing OfBoth (clauses shape (seen_by q.log q.bank (state_after_all shape state rs)) q) ≡ Some rule
+    → first_failing OfBoth (step_clauses shape (seen_by q.log q.bank (state_after_all shape state rs)) q) ≡ Some rule
     → recheck_from shape state logs next place order ≡ Broken (place + n) rule
 failed_is shape n [] rs left state logs next place q rule inside taken numbers run is fails = absurd (omega arith)
 failed_is shape zero (log ∷ order) (r ∷ rs) left state logs next place q rule inside taken numbers run is fails =

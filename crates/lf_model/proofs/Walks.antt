@@ -21,7 +21,8 @@ use Rattle.lf_rules.specs.declared.shape.Shape.{Shape}
 use Rattle.lf_model.specs.declared.outcome.Recheck.{Recheck}
 use Rattle.lf_model.specs.declared.outcome.Recheck.TheVariants.{NotAnOrder, Broken}
 use Rattle.lf_rules.specs.State.{update, State, seen_by}
-use Rattle.lf_rules.specs.Table.{OfBoth, clauses}
+use Rattle.lf_rules.specs.Table.{OfBoth}
+use Rattle.lf_rules.specs.Step.{step_clauses}
 use Rattle.lf_rules.specs.Run.{first_failing, state_after}
 use Rattle.lf_rules.specs.Address.{no_bank}
 use Rattle.lf_rules.specs.Order.{log_at, after_next}
@@ -66,7 +67,7 @@ none_next shape state left next place log order e =
     ap (λ (xs : List Record). elim xs as (λ _. Recheck) [
       | [] ↦ NotAnOrder place
       | r ∷ rest ↦ judged_at (is_numbered next r) (first_failing OfBoth
-          (clauses shape (seen_by r.log r.bank state) r)) place
+          (step_clauses shape (seen_by r.log r.bank state) r)) place
           (recheck_from shape (state_after shape state r) (after_next left log) (next_after next r) (place + 1) order)
     ]) e
 
@@ -156,13 +157,13 @@ later shape state left next place log order r = recheck_from shape (state_after 
 at_next : (shape : Shape) (state : State) (left : List (List Record)) (next : ℕ → ℕ) (place log : ℕ) (order : List ℕ)
     (r : Record) → log_at left log ≡ r ∷ drop 1 (log_at left log)
     → recheck_from shape state left next place (log ∷ order)
-    ≡ judged_at (is_numbered next r) (first_failing OfBoth (clauses shape (seen_by r.log r.bank state) r)) place
+    ≡ judged_at (is_numbered next r) (first_failing OfBoth (step_clauses shape (seen_by r.log r.bank state) r)) place
     (recheck_from shape (state_after shape state r) (after_next left log) (next_after next r) (place + 1) order)
 at_next shape state left next place log order r e =
     ap (λ (xs : List Record). elim xs as (λ _. Recheck) [
       | [] ↦ NotAnOrder place
       | q ∷ rest ↦ judged_at (is_numbered next q) (first_failing OfBoth
-          (clauses shape (seen_by q.log q.bank state) q)) place
+          (step_clauses shape (seen_by q.log q.bank state) q)) place
           (recheck_from shape (state_after shape state q) (after_next left log) (next_after next q) (place + 1) order)
     ]) e
 
@@ -194,13 +195,13 @@ pub wrong_number : (shape : Shape) (state : State) (left : List (List Record)) (
     → is_numbered next r ≡ false → recheck_from shape state left next place (log ∷ order) ≡ NotAnOrder place
 wrong_number shape state left next place log order r e wrong =
     at_next shape state left next place log order r e ∙ ap (λ b.
-    judged_at b (first_failing OfBoth (clauses shape (seen_by r.log r.bank state) r)) place
+    judged_at b (first_failing OfBoth (step_clauses shape (seen_by r.log r.bank state) r)) place
     (later shape state left next place log order r)) wrong
 
 pub right_number : (shape : Shape) (state : State) (left : List (List Record)) (next : ℕ → ℕ) (place log : ℕ)
     (order : List ℕ) (r : Record) (o : Option Rule)
     → log_at left log ≡ r ∷ drop 1 (log_at left log)
-    → is_numbered next r ≡ true → first_failing OfBoth (clauses shape (seen_by r.log r.bank state) r) ≡ o
+    → is_numbered next r ≡ true → first_failing OfBoth (step_clauses shape (seen_by r.log r.bank state) r) ≡ o
     → recheck_from shape state left next place (log ∷ order) ≡ judged_at true o place
     (recheck_from shape (state_after shape state r) (after_next left log) (next_after next r) (place + 1) order)
 right_number shape state left next place log order r o e number rule =
@@ -210,7 +211,7 @@ right_number shape state left next place log order r o e number rule =
 pub rule_broken : (shape : Shape) (state : State) (left : List (List Record)) (next : ℕ → ℕ) (place log : ℕ)
     (order : List ℕ) (r : Record) (rule : Rule)
     → log_at left log ≡ r ∷ drop 1 (log_at left log)
-    → is_numbered next r ≡ true → first_failing OfBoth (clauses shape (seen_by r.log r.bank state) r) ≡ Some rule
+    → is_numbered next r ≡ true → first_failing OfBoth (step_clauses shape (seen_by r.log r.bank state) r) ≡ Some rule
     → recheck_from shape state left next place (log ∷ order) ≡ Broken place rule
 rule_broken shape state left next place log order r rule = right_number shape state left next place log order r
     (Some rule)
@@ -278,7 +279,7 @@ pub walked_on : (shape : Shape) (state new : State) (places : List ℕ) (vs : Li
     → length places ≡ length vs → log_at (left_of places (items_of vs)) log ≡ r
     ∷ drop 1 (log_at (left_of places (items_of vs)) log)
     → is_numbered (slice_index numbers) r ≡ true → slice_index later ≡ next_after (slice_index numbers) r
-    → first_failing OfBoth (clauses shape (seen_by r.log r.bank state) r) ≡ None → new ≡ state_after shape state r
+    → first_failing OfBoth (step_clauses shape (seen_by r.log r.bank state) r) ≡ None → new ≡ state_after shape state r
     → recheck_from shape state (left_of places (items_of vs)) (slice_index numbers) place (log ∷ order)
     ≡ recheck_from shape new (left_of (set places log (slice_index places log + 1)) (items_of vs)) (slice_index later)
     (place + 1) order

@@ -1,6 +1,8 @@
 -- What `recheck` answers. The definitions stand in `lf_rules` and are offered here again; the types that it
 -- declares are named as `Rattle.lf_rules.specs.declared`.
+pub mod Alone
 pub mod Recheck
+pub mod System
 pub mod Walk
 pub use Rattle.lf_rules.specs.Address
 pub use Rattle.lf_rules.specs.Clauses

@@ -7,7 +7,8 @@ use Rattle.lf_model.specs.declared.outcome.Recheck.{Recheck}
 use Rattle.lf_model.specs.declared.outcome.Recheck.TheVariants.{Accepted, NotAnOrder, Broken}
 use Rattle.lf_rules.specs.Address.{FlatMemory, no_bank}
 use Rattle.lf_rules.specs.State.{opening, seen_by}
-use Rattle.lf_rules.specs.Table.{OfBoth, clauses}
+use Rattle.lf_rules.specs.Table.{OfBoth}
+use Rattle.lf_rules.specs.Step.{step_clauses}
 use Rattle.lf_rules.specs.Run.{first_failing, IsRun, Interleaves, KeepsNumbers, NameTheirLogs, of_bank}
 use Rattle.lf_rules.specs.Sharing.{state_after_all}
 use Rattle.lf_rules.specs.Order.{log_at, after_next}
@@ -61,7 +62,7 @@ pub record FailsAt (shape : Shape) (memory : FlatMemory) (logs : List (List Reco
   pub inside : place < length order
   pub next : Record
   pub is_next : IsNext left (slice_index order place) records next
-  pub fails : first_failing OfBoth (clauses shape (seen_by next.log next.bank
+  pub fails : first_failing OfBoth (step_clauses shape (seen_by next.log next.bank
       (state_after_all shape (opening memory) records)) next) ≡ Some rule
 
 abbrev pub IsRecheck : Shape → FlatMemory → List (List Record) → List ℕ → Recheck → Type 0

@@ -7,10 +7,11 @@ use Rattle.lf_rules.specs.declared.event.Record.{Record}
 use Rattle.lf_rules.specs.declared.rule.Rule.{Rule}
 use Rattle.lf_rules.specs.Address.{FlatMemory, no_bank}
 use Rattle.lf_rules.specs.Order.{log_at, after_next}
+use Rattle.lf_rules.specs.Step.{step_clauses}
 use Rattle.lf_rules.specs.Run.{first_failing, state_after}
 use Rattle.lf_rules.specs.State.{update, State, opening, seen_by}
-use Rattle.lf_rules.specs.Table.{OfBoth, clauses}
-use Rattle.model_plain.specs.Plain.{state_of, IsMachine}
+use Rattle.lf_rules.specs.Table.{OfBoth}
+use Rattle.lf_model.specs.System.{shape_of, state_of, IsSystem}
 use Rattle.lf_model.specs.declared.outcome.Recheck.{Recheck}
 use Rattle.lf_model.specs.declared.outcome.Recheck.TheVariants.{Accepted, NotAnOrder, Broken}
 use Rattle.lf_model.specs.declared.walk.Walk.{Walk}
@@ -53,8 +54,8 @@ recheck_from shape state left next place (log ∷ order) =
       | r ∷ rest ↦
           let later = recheck_from shape (state_after shape state r) (after_next left log) (next_after next r)
           (place + 1) order in
-          judged_at (is_numbered next r) (first_failing OfBoth (clauses shape (seen_by r.log r.bank state) r)) place
-          later
+          judged_at (is_numbered next r) (first_failing OfBoth (step_clauses shape (seen_by r.log r.bank state) r))
+          place later
     ]
 
 abbrev pub recheck_of : Shape → FlatMemory → List (List Record) → List ℕ → Recheck
@@ -74,14 +75,14 @@ count_left (rs ∷ left) = length rs + count_left left
 
 -- a walk's places and numbers are those of its logs and banks
 pub record IsWalk (walk : Walk) (logs : List (List Record)) : Type 0 where
-  pub machine : IsMachine walk.machine
+  pub system : IsSystem walk.system
   pub places : length walk.places.items ≡ length logs
-  pub numbers : length walk.next.items ≡ walk.machine.shape.banks
+  pub numbers : length walk.next.items ≡ (shape_of walk.system).banks
 
 -- what the walk's answer is from here on
 abbrev pub walked : Walk → List (List Record) → ℕ → List ℕ → Recheck
 walked walk logs place order =
-    recheck_from walk.machine.shape (state_of walk.machine) (left_of walk.places.items logs)
+    recheck_from (shape_of walk.system) (state_of walk.system) (left_of walk.places.items logs)
     (slice_index walk.next.items) place order
 
 -- a place that was taken leaves the rest of the order to decide

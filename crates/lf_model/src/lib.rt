@@ -1,11 +1,13 @@
-//! `recheck`, which walks the plain machine of `model_plain` along an order of the logs. It is made to be read
-//! beside the table of rules, not to be fast.
+//! `recheck`, which walks the plain machine of `model_plain` along an order of the logs, or the banks of a cache by
+//! itself. It is made to be read beside the table of rules, not to be fast.
 //!
 //! The types, the definitions and their laws stand in `lf_rules`, and are offered here again.
 #![tactic(auto)]
 
+mod alone;
 mod laws;
 mod outcome;
+mod system;
 mod walk;
 
 pub use laws::rechecks_are_one;

@@ -1,4 +1,4 @@
-//! A walk of the plain machine along an order of the logs, and what it makes of the order.
+//! A walk of the whole system along an order of the logs, and what it makes of the order.
 
 ghost use Rattle.std.specs.Prelude.{◌≡◌, ℕ, ◌+◌, ◌<◌, ◌≤◌, ◌^◌, [], ◌∷◌, List, IfOk, OnOk, MatchOption, drop};
 ghost use Rattle.std.specs.Prelude.{replicate, length, slice_index};
@@ -12,10 +12,11 @@ ghost use Rattle.lf_rules.specs.Address.{flat_memory};
 ghost use Rattle.lf_rules.specs.InRange.{IsShape};
 ghost use Rattle.lf_rules.specs.Run.{NameTheirLogs};
 ghost use Rattle.lf_model.specs.Recheck.{lists_of, IsRecheck};
+ghost use Rattle.lf_model.specs.System.{shape_of};
 
 use crate::outcome::Recheck;
+use crate::system::System;
 use lf_rules::{Logs, Memory, NoMemory, Record, Rule, Shape};
-use model_plain::Machine;
 use std::alloc::Global;
 
 /// What came of one place of an order.
@@ -32,7 +33,7 @@ pub(crate) enum Taken {
 /// Where a walk along an order stands.
 #[derive(Drop)]
 pub(crate) struct Walk {
-    pub(crate) machine: Machine,
+    pub(crate) system: System,
     /// The place of the next record of each log.
     pub(crate) places: Vec<usize>,
     /// The next number of each bank.
@@ -92,7 +93,7 @@ impl Walk {
     ) -> Result<Walk, NoMemory>
         requires { IsShape shape.now }
         ensures walk { IfOk result (λ walk. IsWalk walk (lists_of logs.now)) }
-        ensures shape { IfOk result (λ walk. walk.machine.shape ≡ shape.now) }
+        ensures shape { IfOk result (λ walk. shape_of walk.system ≡ shape.now) }
         ensures answer { IfOk result (λ walk. (order : List ℕ) →
             walked walk (lists_of logs.now) 0 order ≡ recheck_of shape.now (flat_memory memory.now.items)
             (lists_of logs.now) order) }
@@ -100,7 +101,7 @@ impl Walk {
         ensures next { IfOk result (λ walk. (bank : ℕ) → slice_index walk.next.items bank ≡ 0) }
     {
         Ok(Walk {
-            machine: Machine::new(alloc, shape, memory)?,
+            system: System::new(alloc, shape, memory)?,
             places: first_places(alloc, logs.len())?,
             next: first_numbers(alloc, shape.banks)?,
         })
@@ -109,7 +110,7 @@ impl Walk {
     /// The answer to the rest of an order, from its first place on.
     pub(crate) fn follow(&mut self, logs: &Logs, order: &[u8]) -> Result<Recheck, NoMemory>
         requires walk { IsWalk self.old (lists_of logs.now) }
-        requires fits { All (λ log. All (Fits self.old.machine.shape) log.items) logs.now.items }
+        requires fits { All (λ log. All (Fits (shape_of self.old.system)) log.items) logs.now.items }
         requires short { (log : ℕ) → length (log_at (lists_of logs.now) log) < 2 ^ 32 }
         requires few { count_left (left_of self.old.places.items (lists_of logs.now)) ≤ 2 ^ 29 }
         requires next { (bank : ℕ) → slice_index self.old.next.items bank ≡ 0 }
@@ -160,7 +161,7 @@ impl Walk {
     /// Takes the next record of the named log.
     pub(crate) fn take(&mut self, logs: &Logs, log: usize) -> Result<Taken, NoMemory>
         requires walk { IsWalk self.old (lists_of logs.now) }
-        requires fits { All (λ log. All (Fits self.old.machine.shape) log.items) logs.now.items }
+        requires fits { All (λ log. All (Fits (shape_of self.old.system)) log.items) logs.now.items }
         requires short { (log : ℕ) → length (log_at (lists_of logs.now) log) < 2 ^ 32 }
         requires few { (bank : ℕ) → slice_index self.old.next.items bank + 1 < 2 ^ 32 }
         ensures answer { IfOk result (λ taken. (place : ℕ) (order : List ℕ) →
@@ -172,7 +173,7 @@ impl Walk {
         ensures next { OnOk result ((bank : ℕ) → slice_index self.new.next.items bank ≤ slice_index
             self.old.next.items bank + 1) }
         ensures walk { OnOk result (IsWalk self.new (lists_of logs.now)) }
-        ensures shape { OnOk result (self.new.machine.shape ≡ self.old.machine.shape) }
+        ensures shape { OnOk result (shape_of self.new.system ≡ shape_of self.old.system) }
     {
         let Some(item) = self.record(logs, log) else {
             return Ok(Taken::NotNext);
@@ -180,7 +181,7 @@ impl Walk {
         if !is_numbered(&self.next, item) {
             return Ok(Taken::NotNext);
         }
-        if let Some(rule) = self.machine.step(item)? {
+        if let Some(rule) = self.system.step(item)? {
             return Ok(Taken::Breaks(rule));
         }
         count(&mut self.next, item);

@@ -187,7 +187,7 @@ module _ {A : Type 0} (items : List A) (next used : List ℕ) (end last len : �
             absurd (omega (arith, found, some, h, o))
       ]
 
-  pub len-le : len ≤ 1024
+  pub len-le : len ≤ 4096
   len-le =
       let most = length_by_keys (λ (x : ℕ). x) end 1 order chain.places.once chain.places.none in
       let long = length-walk (slice_index next) end len in
@@ -275,7 +275,7 @@ module _ {A : Type 0} (items : List A) (next used : List ℕ) (end last len : �
           none false = refl
 
 -- no place is in use
-pub chain-empty : {A : Type 0} (items : List A) (next used : List ℕ) (end : ℕ) → end ≤ 1024 → length items ≡ end →
+pub chain-empty : {A : Type 0} (items : List A) (next used : List ℕ) (end : ℕ) → end ≤ 4096 → length items ≡ end →
     length next ≡ end + 1 → end ≤ 64 * length used
     → ((place : ℕ) → is_marked used place ≡ false) → IsChain items next used end end 0
 chain-empty items next used end few long links words clear = record {
@@ -516,7 +516,7 @@ parted-walk long next used end kept a left parted =
 
 -- nothing is still to come
 pub chain-parted : {A : Type 0} (items : List A) (long : ℕ) (next used : List ℕ) (end last kept a left : ℕ) →
-    left ≡ 0 → end ≤ 1024 → length items ≡ end → end ≤ 64 * long
+    left ≡ 0 → end ≤ 4096 → length items ≡ end → end ≤ 64 * long
     → IsParted long next used end last kept a left → IsChain items next used end last kept
 chain-parted items long next used end last kept a left none few fits wide parted =
     let all : walk (slice_index next) end kept ++ walk (slice_index next) a left ≡ walk (slice_index next) end kept =
@@ -534,7 +534,7 @@ chain-parted items long next used end last kept a left none few fits wide parted
     }
 
 -- the last place that was kept is the one before those still to come, which are kept as they are
-pub chain-joined : {A : Type 0} (items : List A) (long : ℕ) (next used : List ℕ) (end kept a left : ℕ) → end ≤ 1024
+pub chain-joined : {A : Type 0} (items : List A) (long : ℕ) (next used : List ℕ) (end kept a left : ℕ) → end ≤ 4096
     → length items ≡ end → end ≤ 64 * long → IsParted long next used end a kept a left
     → IsChain items next used end (last_of a (walk (slice_index next) a left)) (kept + left)
 chain-joined items long next used end kept a left few fits wide parted =

@@ -52,8 +52,8 @@ pub record IsReleasing {T : Type 0} (items : List (Held T)) (was : List ℕ) (le
       ≡ targets ++ map released_pair (targets_of (held_of (placed items (walk (slice_index next) a left))) block)
   pub finish : last_of a (walk (slice_index next) a left) ≡ last_of end (walk (slice_index was) end len)
   pub low : a ≤ end
-  pub few : length targets + left ≤ 1024
-  pub many : kept + left ≤ 1024
+  pub few : length targets + left ≤ 4096
+  pub many : kept + left ≤ 4096
 
 module _ {T : Type 0} (items : List (Held T)) (was : List ℕ) (len long block : ℕ) (next used : List ℕ)
     (targets : List (ℕ × T)) (end last kept a left : ℕ)
@@ -164,7 +164,7 @@ module _ {T : Type 0} (items : List (Held T)) (was : List ℕ) (len long block :
         ∙ sym (placed-append items (walk (slice_index next) end kept) (walk (slice_index next) a left))
 
     -- the links of the places behind stay, and the last place that was kept leads to them
-    pub closed : 0 < left → end ≤ 1024 → end ≤ 64 * long
+    pub closed : 0 < left → end ≤ 4096 → end ≤ 64 * long
         → IsChain items (set next last (slice_index next a)) used end (last_of end (walk (slice_index was) end len))
         (kept + left)
         × (left_of before block ≡ placed items
@@ -187,7 +187,7 @@ module _ {T : Type 0} (items : List (Held T)) (was : List ℕ) (len long block :
         )
 
     -- nothing is still to come
-    pub ended : left ≡ 0 → end ≤ 1024 → end ≤ 64 * long → IsChain items next used end last (kept + left)
+    pub ended : left ≡ 0 → end ≤ 4096 → end ≤ 64 * long → IsChain items next used end last (kept + left)
         × (left_of before block ≡ placed items (walk (slice_index next) end (kept + left)))
     ended zero few wide =
         let sum : kept ≡ kept + left = omega (arith, zero) in (

@@ -1,6 +1,6 @@
 -- There is room exactly where some register takes the target.
 use Rattle.std.proofs.Common.{◌≡◌, ℕ, ◌<◌, ◌⊎◌, [], ◌∷◌, Bool, true, false, not, ◌↔◌, inl, inr, nat_lt, None, Some}
-use Rattle.std.proofs.Common.{refl, sym, ap, ◌∙◌, lt-ltb, ltb-true}
+use Rattle.std.proofs.Common.{◌==◌, refl, sym, ap, ◌∙◌, lt-ltb, ltb-true}
 use Rattle.std.proofs.lemmas.Bool.{not-true}
 use Rattle.std.specs.Bool.{IsTrue}
 use Rattle.lf_rules.specs.declared.rule.Rule.{Rule}
@@ -46,7 +46,7 @@ module _ {T : Type 0} (position destination : T → ℕ) (file : RegisterFile T)
   room_to : has_room_for position destination file block target ≡ true →
       SomeTakes position destination file block target
   room_to e =
-      let room = (room_is position file.destinations file.held block (destination target) (position target)
+      let room = (room_is (λ t. position t == position target) file.destinations file.held block (destination target)
       file.organisation).0 e in (
         room.0,
         elim room.1 [
@@ -66,7 +66,8 @@ module _ {T : Type 0} (position destination : T → ℕ) (file : RegisterFile T)
   room_from : SomeTakes position destination file block target →
       has_room_for position destination file block target ≡ true
   room_from some =
-      (room_is position file.destinations file.held block (destination target) (position target) file.organisation).1 (
+      (room_is (λ t. position t == position target) file.destinations file.held block (destination target)
+      file.organisation).1 (
         some.0,
         elim some.1 [
           | inl e ↦

@@ -38,7 +38,7 @@ module _ {A : Type 0} where
 
 -- The links lead from the end through so many places to the last, and the words have a bit for each of them.
 pub record IsChain {A : Type 0} (items : List A) (next used : List ℕ) (end last len : ℕ) : Type 0 where
-  pub few : end ≤ 1024
+  pub few : end ≤ 4096
   pub long : length items ≡ end
   pub links : length next ≡ end + 1
   pub words : end ≤ 64 * length used

@@ -33,7 +33,7 @@ pub struct ExplicitFile<T: Target> {
     ghost within: { IsWithin registers.registers entries (held_of registers.places.order) },
     ghost rows: { are_in_rows entries registers.places.order ≡ true },
     ghost some_entry: { 1 ≤ entries },
-    ghost limit: { registers.registers * entries ≤ 1024 },
+    ghost limit: { registers.registers * entries ≤ 4096 },
 }
 
 impl<T: Target> ExplicitFile<T> {

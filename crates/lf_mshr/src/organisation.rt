@@ -51,7 +51,7 @@ pub trait Organisation {
         destinations: u16,
     ) -> Result<Self::File, NoMemory>
         requires names { names organisation.now ≡ true }
-        requires in_range { IsOrganisation organisation.now }
+        requires in_range { IsOrganisation 64 organisation.now }
         requires destinations { destinations ≤ 1024 }
         ensures { IfOk result (λ file. seen file ≡ empty_file organisation.now destinations) };
 

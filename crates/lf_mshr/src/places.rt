@@ -47,7 +47,7 @@ impl<T> Model for Places<T> {
 impl<T: Target> Places<T> {
     /// So many places, of which none is in use.
     pub fn new(alloc: Global, places: u16) -> Result<Places<T>, NoMemory>
-        requires { places ≤ 1024 }
+        requires { places ≤ 4096 }
         ensures { IfOk result (λ p. p ≡ no_places places) }
     {
         let items = vec![in alloc; Held::blank(); usize::from(places)]?;
@@ -83,7 +83,7 @@ impl<T: Target> Places<T> {
         requires there { place < self.old.places }
         requires free { is_taken self.old.order place ≡ false }
         ensures order { self.new.order ≡ self.old.order ++ (place, item) ∷ [] }
-        ensures few { length self.new.order ≤ 1024 }
+        ensures few { length self.new.order ≤ 4096 }
         ensures places { self.new.places ≡ self.old.places }
     {
         self.items[usize::from(place)] = item;

@@ -44,7 +44,7 @@ impl<T: Target> Registers<T> {
     /// Free registers with so many places together.
     pub fn new(alloc: Global, registers: u32, places: u16) -> Result<Registers<T>, NoMemory>
         requires registers { registers ≤ 64 }
-        requires places { places ≤ 1024 }
+        requires places { places ≤ 4096 }
         ensures { IfOk result (λ r. (r.registers ≡ registers) × (r.places ≡ no_places places)) }
     {
         let blocks = vec![in alloc; 0; registers as usize]?;

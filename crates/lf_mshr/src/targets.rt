@@ -7,7 +7,7 @@ use std::alloc::Global;
 use std::marker::Model;
 
 /// As many targets as the largest file has places.
-const ROOM: usize = 1024;
+const ROOM: usize = 4096;
 
 /// The targets of a block, each with the register that held it, in the order of acceptance.
 ///
@@ -24,7 +24,7 @@ impl<T> Model for Targets<T> {
 
     ghost view = { λ t. t.items.items };
 
-    ghost invariant = { λ t. (1024 ≤ vec_capacity t.items) × (length t.items.items ≤ 1024) };
+    ghost invariant = { λ t. (4096 ≤ vec_capacity t.items) × (length t.items.items ≤ 4096) };
 }
 
 impl<T: Drop> Targets<T> {
@@ -53,7 +53,7 @@ impl<T: Drop> Targets<T> {
     /// The targets, each behind its register.
     pub fn as_slice(&self) -> &[(u16, T)]
         ensures value { result.now ≡ self.now }
-        ensures few { length result.now ≤ 1024 }
+        ensures few { length result.now ≤ 4096 }
     {
         self.items.as_slice()
     }
@@ -67,7 +67,7 @@ impl<T: Drop> Targets<T> {
 
     /// Appends a target of the register.
     pub fn push(&mut self, register: u16, target: T)
-        requires { length self.old < 1024 }
+        requires { length self.old < 4096 }
         ensures { self.new ≡ self.old ++ (register, target) ∷ [] }
     {
         self.items.push_reserved((register, target));

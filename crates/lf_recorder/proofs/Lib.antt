@@ -4,3 +4,4 @@ pub mod Steps
 pub mod Numbered
 pub mod Closing
 pub mod DeskSeats
+pub mod LogRoom

@@ -7,6 +7,8 @@ use Rattle.lf_rules.specs.Address.{no_bank}
 use Rattle.lf_rules.specs.declared.event.Record.{Record}
 use Rattle.lf_rules.specs.declared.event.Event.{Event}
 use Rattle.lf_rules.specs.declared.event.Event.TheVariants.{Issue, Reply, Fence, SecondMerge}
+use Rattle.lf_rules.specs.declared.event.Event.TheVariants.{Masked, Grant, Clean1, Yield1, Outside}
+use Rattle.lf_rules.specs.Fits.{is_of_level_two}
 use Rattle.lf_recorder.specs.declared.fault.RecordFault.{RecordFault}
 use Rattle.lf_recorder.specs.declared.fault.RecordFault.TheVariants.{LogKind, BankRange, LogFull}
 
@@ -28,13 +30,23 @@ abbrev pub is_port_event : Event → Bool
 is_port_event (Issue op tag size address bytes) = true
 is_port_event (Reply tag size bytes) = true
 is_port_event Fence = true
+is_port_event (Masked op tag block mask bytes) = true
 is_port_event _ = false
 
 -- the first version of the traces that have this kind
 abbrev pub first_version : Event → ℕ
 first_version Fence = 2
 first_version (SecondMerge block register) = 3
+first_version (Masked op tag block mask bytes) = 4
+first_version (Grant block) = 4
+first_version (Clean1 block mask bytes) = 4
+first_version (Yield1 block) = 4
+first_version (Outside block mask bytes) = 4
 first_version _ = 1
+
+-- whether traces of this version have this kind: those of version 4 have none of level two
+abbrev pub has_kind : ℕ → Event → Bool
+has_kind version event = nat_le (first_version event) version && not ((version == 4) && is_of_level_two event)
 
 -- the most records of one log
 abbrev pub most_records : ℕ → ℕ
@@ -51,7 +63,7 @@ is_port_log d v = nat_lt v.log d.ports
 
 -- whether the seat's log holds this kind
 abbrev pub is_own_kind : DeskView → SeatView → Event → Bool
-is_own_kind d v event = nat_le (first_version event) d.version
+is_own_kind d v event = has_kind d.version event
     && cond (is_port_log d v) (is_port_event event) (not (is_port_event event))
 
 -- whether the seat's log may name this bank, or none in the record of a fence

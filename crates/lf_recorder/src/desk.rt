@@ -5,7 +5,9 @@ ghost use Rattle.std.specs.Prelude.{◌↔◌, true, false, ◌≢◌, All, map,
 ghost use Rattle.std.specs.Bool.{OnTrue, OnFalse};
 ghost use Rattle.lf_recorder.specs.declared.rule.View.TheVariants.{Collector, Log};
 ghost use Rattle.lf_recorder.specs.Rule.{IsAbove, fence_of};
-ghost use Rattle.lf_recorder.specs.Desk.{after_record, refusal_of, is_port_event, first_version, most_records};
+ghost use Rattle.lf_recorder.specs.Desk.{after_record, refusal_of, is_port_event, first_version, has_kind};
+ghost use Rattle.lf_recorder.specs.Desk.{most_records};
+ghost use Rattle.lf_rules.specs.Fits.{is_of_level_two};
 ghost use Rattle.lf_recorder.specs.Desk.{is_own_bank, new_seat as new_seat_of};
 ghost use Rattle.lf_recorder.specs.Desk.{logs_of, opened, entry_of, placed, AreNewSeats, HasSeat, HoldSeats};
 ghost use Rattle.lf_recorder.specs.Desk.{IsLowestWithout};
@@ -133,7 +135,7 @@ fn is_port(event: &Event) -> bool
     ensures { result ≡ is_port_event event.now }
 {
     match event {
-        Event::Issue { .. } | Event::Reply { .. } | Event::Fence => true,
+        Event::Issue { .. } | Event::Reply { .. } | Event::Fence | Event::Masked { .. } => true,
         _ => false,
     }
 }
@@ -145,8 +147,34 @@ fn first_version(event: &Event) -> u32
     match event {
         Event::Fence => 2,
         Event::SecondMerge { .. } => 3,
+        Event::Masked { .. }
+        | Event::Grant { .. }
+        | Event::Clean1 { .. }
+        | Event::Yield1 { .. }
+        | Event::Outside { .. } => 4,
         _ => 1,
     }
+}
+
+fn is_of_level_two(event: &Event) -> bool
+    ensures { result ≡ is_of_level_two event.now }
+{
+    match event {
+        Event::SecondHit { .. }
+        | Event::SecondPrimary { .. }
+        | Event::SecondMerge { .. }
+        | Event::SecondStall { .. }
+        | Event::Fill2 { .. }
+        | Event::Evict2 { .. } => true,
+        _ => false,
+    }
+}
+
+// Whether traces of this version have this kind: those of version 4 have none of level two.
+fn has_kind(version: u32, event: &Event) -> bool
+    ensures { result ≡ has_kind version event.now }
+{
+    first_version(event) <= version && !(version == 4 && is_of_level_two(event))
 }
 
 // The most records of one log.
@@ -267,14 +295,14 @@ impl Desk {
     }
 
     /// A desk for traces of this version. Version 2 brings fences and longer logs, version 3 the merges
-    /// of level two.
+    /// of level two. Version 4 is that of a cache by itself.
     pub fn new_version(
         alloc: Global,
         version: u32,
         ports: u32,
         banks: u32,
     ) -> Result<Desk, NoMemory>
-        requires version { (0 < version) × (version ≤ 3) }
+        requires version { (0 < version) × (version ≤ 4) }
         requires ports { (0 < ports) × (ports ≤ 16) }
         requires banks { (0 < banks) × (banks ≤ 16) }
         ensures { IfOk result (λ d. (d.version ≡ version) × (d.ports ≡ ports) × (d.banks ≡ banks) ×
@@ -334,7 +362,7 @@ impl Desk {
         ensures { result ≡ refusal_of self.now seat.now bank event.now }
     {
         let of_port = seat.log < self.ports;
-        if first_version(event) > self.version || is_port(event) != of_port {
+        if !has_kind(self.version, event) || is_port(event) != of_port {
             return Some(RecordFault::LogKind);
         }
         if !self.may_name(seat, bank, event) {

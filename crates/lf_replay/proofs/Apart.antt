@@ -3,9 +3,8 @@ use Rattle.std.proofs.Common.{◌≡◌, ℕ, Bool, true, false, cond, not, ◌&
 use Rattle.std.proofs.Common.{subst, Option, None, refl, sym, ap, ◌∙◌, eqb-true}
 use Rattle.lf_rules.specs.declared.shape.Shape.{Shape}
 use Rattle.lf_rules.specs.declared.event.Event.{Event}
-use Rattle.lf_rules.specs.declared.event.Event.TheVariants.{Issue, Reply, Hit, Primary, Merge, Stall, Fill1, Evict1}
-use Rattle.lf_rules.specs.declared.event.Event.TheVariants.{SecondHit, SecondPrimary, SecondStall, Fill2, Evict2}
-use Rattle.lf_rules.specs.declared.event.Event.TheVariants.{SecondMerge, Fence}
+use Rattle.lf_rules.specs.declared.event.Event.TheVariants.{Issue, Reply, Hit, Primary, Merge, Fill1, Evict1}
+use Rattle.lf_rules.specs.declared.event.Event.TheVariants.{SecondHit, SecondPrimary, SecondMerge, Fill2, Evict2}
 use Rattle.lf_rules.specs.Registers.{Held, holds, targets_of}
 use Rattle.lf_rules.specs.Address.{second_of}
 use Rattle.lf_rules.specs.Lines.{has_line}
@@ -179,9 +178,6 @@ module _ (shape : Shape) (right : Bool) (value : List ℕ) (replies : List Ready
       EachStands shape (slice_after shape value replies slice log e)
   stands_after (Issue op tag size address bytes) none = record { blocks = each.blocks; fetched = each.fetched }
   stands_after (Reply tag size bytes) none = record { blocks = each.blocks; fetched = each.fetched }
-  stands_after (Stall port tag) none = each
-  stands_after (SecondStall block) none = each
-  stands_after Fence none = each
   stands_after (Hit port tag) none = record {
     blocks = λ y.
         let h = facts shape right busy slice log bank (Hit port tag) none in
@@ -279,3 +275,4 @@ module _ (shape : Shape) (right : Bool) (value : List ℕ) (replies : List Ready
         fetched = λ k. fetched_by _ _ _ _ refl (has_gone slice.lines2 second k)
             (fetched_evicted (second == k) _ _ (each.fetched k));
       }
+  stands_after _ none = each

@@ -1,8 +1,9 @@
 -- Each event that breaks no rule leads to a state that a run may reach.
 use Rattle.std.proofs.Common.{◌≡◌, ◌<◌, ℕ, Bool, true, false, cond, not, ◌==◌, List, [], ◌∷◌, ◌++◌, drop, Result, Ok}
-use Rattle.std.proofs.Common.{Err, Option, None, refl, sym, ap, subst, ltb-true}
+use Rattle.std.proofs.Common.{Err, Option, None, refl, sym, ap, ◌∙◌, subst, ltb-true}
 use Rattle.std.specs.List.{AllByRecursion}
 use Rattle.std.specs.Prelude.{OnErr}
+use Rattle.lf_rules.specs.declared.shape.Below.TheVariants.{LevelTwo}
 use Rattle.lf_rules.specs.declared.shape.Shape.{Shape}
 use Rattle.lf_rules.specs.declared.event.Event.{Event}
 use Rattle.lf_rules.specs.declared.event.Event.TheVariants.{Issue, Hit, Primary, Merge, SecondPrimary, SecondMerge}
@@ -12,9 +13,11 @@ use Rattle.lf_rules.specs.Address.{FlatMemory, second_of}
 use Rattle.lf_rules.specs.InRange.{IsShape}
 use Rattle.lf_rules.specs.Outcomes.{first_local}
 use Rattle.lf_rules.specs.Run.{first_failing, IsRunOf}
+use Rattle.lf_rules.specs.Step.{step_effect}
 use Rattle.lf_rules.specs.State.{Request, Ready, Slice, Local, update}
 use Rattle.lf_rules.specs.Table.{OfBank, rules_of, slice_after, carries, value_at, accepts, replies_at, request_of}
 use Rattle.lf_rules.specs.Table.{bank_effect, block_asked, second_miss}
+use Rattle.lf_rules.proofs.Chosen.{two_clauses}
 use Rattle.lf_rules.proofs.CopyStep.{push_all, filter_all}
 use Rattle.bank_events.specs.declared.fault.BankFault.{BankFault}
 use Rattle.bank_events.specs.Agrees.{Agrees, rule_broken, after_event}
@@ -23,11 +26,13 @@ use Rattle.bank_events.specs.Apart.{AreHome}
 use Rattle.bank_events.specs.BankView.{BankView}
 use Rattle.bank_events.specs.Opening.{IsNew}
 use Rattle.bank_events.proofs.Opening.{opening_agrees, opening_stands}
-use Rattle.lf_replay.specs.Shows.{AreTagged, IsReached, ShowsReached, Shows}
+use Rattle.lf_replay.specs.AnyView.{Both}
+use Rattle.lf_replay.specs.Shows.{AreTagged, IsReached, ShowsReachedBoth, ShowsBoth}
 use Rattle.lf_replay.specs.Step.{bank_after}
 use Rattle.lf_replay.proofs.Answered.{AnswerAt, answer_at, are_held}
 use Rattle.lf_replay.proofs.Apart.{facts, stands_after}
 use Rattle.lf_replay.proofs.Places.{factor_some}
+use Rattle.lf_replay.proofs.Tables.{two_effect}
 
 -- ---- tags of queued requests
 
@@ -97,33 +102,37 @@ reached_event shape now log bank e home reached none =
       tagged = tagged_after shape right value replies now.busy now.slice log bank e reached.tagged none;
     }
 
-reached_on : (shape : Shape) (now : Local) (rs : List Record) → AreHome shape now.slice.regs2 → IsReached shape now →
-    IsRunOf OfBank shape now rs → IsReached shape (bank_after shape now rs)
-reached_on shape now [] home reached run = reached
-reached_on shape now (r ∷ rs) home reached run =
-    reached_on shape (bank_effect shape now r) rs
+reached_on : (shape : Shape) (now : Local) (rs : List Record) → shape.below ≡ LevelTwo → AreHome shape now.slice.regs2 →
+    IsReached shape now → IsRunOf OfBank shape now rs → IsReached shape (bank_after shape now rs)
+reached_on shape now [] two home reached run = reached
+reached_on shape now (r ∷ rs) two home reached run =
+    let effect : bank_effect shape now r ≡ step_effect shape now r = sym (two_effect shape now r two) in
+    let none : rule_broken shape now r.log r.bank r.event ≡ None =
+    sym (ap (first_failing OfBank) (two_clauses shape now r two)) ∙ run.0 in
+    reached_on shape (step_effect shape now r) rs two
+    (subst (λ (next : Local). AreHome shape next.slice.regs2) effect
     (home_after shape (value_at now.memory (accepts now.slice r.event)) (replies_at now.slice r.event) now.slice r.log
-    r.event home)
-    (reached_event shape now r.log r.bank r.event home reached run.0) run.1
+    r.event home))
+    (subst (IsReached shape) effect (reached_event shape now r.log r.bank r.event home reached none)) run.1
 
 pub opening_reached : (shape : Shape) (memory : FlatMemory) → IsShape shape → IsReached shape (first_local memory)
 opening_reached shape memory in_range =
     record { in_range = in_range; stands = opening_stands shape memory; tagged = λ port. tt }
 
 -- a run from the opening state reaches where it ends
-pub reached_run : (shape : Shape) (memory : FlatMemory) (rs : List Record) → IsShape shape →
+pub reached_run : (shape : Shape) (memory : FlatMemory) (rs : List Record) → shape.below ≡ LevelTwo → IsShape shape →
     IsRunOf OfBank shape (first_local memory) rs → IsReached shape (bank_after shape (first_local memory) rs)
-reached_run shape memory rs in_range run =
-    reached_on shape (first_local memory) rs tt (opening_reached shape memory in_range) run
+reached_run shape memory rs two in_range run =
+    reached_on shape (first_local memory) rs two tt (opening_reached shape memory in_range) run
 
 -- ---- what a bank keeps after each answer
 
-module _ {A : Type 0} (old new : BankView) (log : ℕ) (e : Event) (keeps : ShowsReached old) where
+module _ {A : Type 0} (old new : BankView) (log : ℕ) (e : Event) (keeps : ShowsReachedBoth old) where
   here : (result : Result A BankFault) → IsAnswer old new log e result → AnswerAt old new keeps.now log 0 e result
   here result answer = answer_at old new keeps.now log 0 e keeps.reached.stands keeps.shows result answer
 
   -- a state that a run may reach
-  pub reached_after : (result : Result A BankFault) → IsAnswer old new log e result → ShowsReached new
+  pub reached_after : (result : Result A BankFault) → IsAnswer old new log e result → ShowsReachedBoth new
   reached_after (Ok done) answer =
       let a = here (Ok done) answer in
       record {
@@ -132,7 +141,7 @@ module _ {A : Type 0} (old new : BankView) (log : ℕ) (e : Event) (keeps : Show
         reached = subst (λ (s : Shape). IsReached s (after_event old.shape keeps.now log e)) (sym a.1)
             (reached_event old.shape keeps.now log 0 e (are_held old keeps.now keeps.shows).home keeps.reached a.0);
       }
-  reached_after (Err fault) answer = subst ShowsReached (sym (here (Err fault) answer).1) keeps
+  reached_after (Err fault) answer = subst ShowsReachedBoth (sym (here (Err fault) answer).1) keeps
 
   -- its shape
   pub same_shape : (result : Result A BankFault) → IsAnswer old new log e result → new.shape ≡ old.shape
@@ -140,24 +149,26 @@ module _ {A : Type 0} (old new : BankView) (log : ℕ) (e : Event) (keeps : Show
   same_shape (Err fault) answer = ap (λ (k : BankView). k.shape) (here (Err fault) answer).1
 
   -- and all that it was, where the answer is a fault
-  pub same_after : (result : Result A BankFault) → IsAnswer old new log e result → OnErr result (new ≡ old)
+  pub same_after : (result : Result A BankFault) → IsAnswer old new log e result → OnErr result (Both new ≡ Both old)
   same_after (Ok done) answer = tt
-  same_after (Err fault) answer = (here (Err fault) answer).1
+  same_after (Err fault) answer = ap Both (here (Err fault) answer).1
 
 -- ---- the opening state
 
 -- a new bank shows it
-pub new_shows : (view : BankView) (shape : Shape) (memory : FlatMemory) → IsNew view shape memory →
-    Shows view (first_local memory)
-new_shows view shape memory new = record {
+pub new_shows : (view : BankView) (shape : Shape) (memory : FlatMemory) → shape.below ≡ LevelTwo →
+    IsNew view shape memory → ShowsBoth view (first_local memory)
+new_shows view shape memory two new = record {
+  below = ap (λ (s : Shape). s.below) new.of_shape ∙ two;
   registers = new.waiting;
   known = subst (Agrees view.shape (first_local memory)) (sym new.known) (opening_agrees view.shape memory);
+  unshared = refl;
 }
 
-pub new_reached : (view : BankView) (shape : Shape) (memory : FlatMemory) → IsShape shape → IsNew view shape memory →
-    ShowsReached view
-new_reached view shape memory in_range new = record {
+pub new_reached : (view : BankView) (shape : Shape) (memory : FlatMemory) → shape.below ≡ LevelTwo → IsShape shape →
+    IsNew view shape memory → ShowsReachedBoth view
+new_reached view shape memory two in_range new = record {
   now = first_local memory;
-  shows = new_shows view shape memory new;
+  shows = new_shows view shape memory two new;
   reached = opening_reached view.shape memory (subst IsShape (sym new.of_shape) in_range);
 }

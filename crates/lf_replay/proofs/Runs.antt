@@ -8,6 +8,7 @@ use Rattle.std.proofs.lemmas.List.{map-append}
 use Rattle.lf_rules.proofs.Bytes.{range_more}
 use Rattle.lf_rules.specs.Fits.{Fits}
 use Rattle.std.proofs.lemmas.List.FromFn.{get_or-range_with_len}
+use Rattle.lf_rules.specs.declared.shape.Below.TheVariants.{LevelTwo}
 use Rattle.lf_rules.specs.declared.shape.Shape.{Shape}
 use Rattle.lf_rules.specs.declared.event.Record.{Record}
 use Rattle.lf_rules.specs.declared.rule.Rule as model
@@ -16,76 +17,84 @@ use Rattle.lf_rules.specs.InRange.{IsShape}
 use Rattle.lf_rules.specs.Numbers.{numbers_of}
 use Rattle.lf_rules.specs.Outcomes.{first_local, IsBankOutcome}
 use Rattle.lf_rules.specs.State.{Local}
-use Rattle.lf_rules.specs.Table.{OfBank, clauses, bank_effect, value_at, accepts, replies_at}
+use Rattle.lf_rules.specs.Step.{step_clauses, step_effect}
+use Rattle.lf_rules.specs.Table.{OfBank}
 use Rattle.lf_rules.specs.Run.{first_failing, IsRunOf, BreaksAt}
 use Rattle.bank_events.specs.declared.fault.BankFault.{BankFault}
 use Rattle.bank_events.specs.declared.fault.BankFault.TheVariants.{Rule, NoMemory}
 use Rattle.lf_rules.specs.declared.outcome.Outcome.{Outcome}
 use Rattle.lf_rules.specs.declared.outcome.Outcome.TheVariants as outcome
-use Rattle.lf_rules.proofs.FitFacts.{names_home}
-use Rattle.lf_rules.proofs.Locality.{SameBank, IsHome, bank_clauses_same, bank_effect_same, home_after}
+use Rattle.lf_rules.proofs.Chosen.{two_clauses}
+use Rattle.lf_rules.proofs.Locality.{SameBank, IsHome}
+use Rattle.lf_rules.proofs.Steps.{step_bank_same, step_effect_same, step_home}
 use Rattle.bank_state.specs.Bytes.{bank_part}
 use Rattle.std.specs.Prelude.{OnOk, IfOk, IfErr}
 use Rattle.bank_events.specs.Agrees.{rule_broken, after_event}
 use Rattle.bank_events.specs.Answers.{IsAnswer}
 use Rattle.bank_events.specs.Apart.{EachStands}
 use Rattle.bank_events.specs.BankView.{BankView}
-use Rattle.lf_replay.specs.Shows.{Shows, ShowsReached}
+use Rattle.lf_replay.specs.AnyView.{AnyView, Both}
+use Rattle.lf_replay.specs.Shows.{ShowsBoth, ShowsReachedBoth}
 use Rattle.lf_replay.specs.Step.{bank_after, IsBankAfter, IsFaultAfter, IsBankOrder}
 use Rattle.lf_replay.proofs.Answered.{AnswerAt, answer_at}
 use Rattle.lf_replay.proofs.Reached.{reached_run}
+use Rattle.lf_replay.proofs.Tables.{two_effect}
 
 module _ (shape : Shape) where
   pub run_more : (now : Local) (rs : List Record) (r : Record) → IsRunOf OfBank shape now rs →
-      first_failing OfBank (clauses shape (bank_after shape now rs) r) ≡ None
+      first_failing OfBank (step_clauses shape (bank_after shape now rs) r) ≡ None
       → IsRunOf OfBank shape now (rs ++ r ∷ [])
   run_more now [] r run none = (none, tt)
-  run_more now (x ∷ rs) r run none = (run.0, run_more (bank_effect shape now x) rs r run.1 none)
+  run_more now (x ∷ rs) r run none = (run.0, run_more (step_effect shape now x) rs r run.1 none)
 
   pub after_more : (now : Local) (rs : List Record) (r : Record) →
-      bank_after shape now (rs ++ r ∷ []) ≡ bank_effect shape (bank_after shape now rs) r
+      bank_after shape now (rs ++ r ∷ []) ≡ step_effect shape (bank_after shape now rs) r
   after_more now [] r = refl
-  after_more now (x ∷ rs) r = after_more (bank_effect shape now x) rs r
+  after_more now (x ∷ rs) r = after_more (step_effect shape now x) rs r
 
   pub breaks_more : (now : Local) (rs : List Record) (r : Record) (rest : List Record) (rule : model.Rule) →
       IsRunOf OfBank shape now rs
-      → first_failing OfBank (clauses shape (bank_after shape now rs) r) ≡ Some rule
+      → first_failing OfBank (step_clauses shape (bank_after shape now rs) r) ≡ Some rule
       → BreaksAt OfBank shape now (rs ++ r ∷ rest) (length rs) rule
   breaks_more now [] r rest rule run some = some
   breaks_more now (x ∷ rs) r rest rule run some = (
     run.0,
-    breaks_more (bank_effect shape now x) rs r rest rule run.1
+    breaks_more (step_effect shape now x) rs r rest rule run.1
         some,
   )
 
--- what a bank answers to a record is what the table says of the state where its run ends
-module _ (old new : BankView) (keeps : ShowsReached old) (shape : Shape) (memory : FlatMemory) (rs : List Record)
-    (stands : IsBankAfter old shape memory rs) (r : Record) where
+-- what a bank of both levels answers to a record is what the table says of the state where its run ends
+module _ (old new : BankView) (keeps : ShowsReachedBoth old) (shape : Shape) (memory : FlatMemory) (rs : List Record)
+    (stands : IsBankAfter (Both old) shape memory rs) (r : Record) where
   abbrev end : Local
   end = bank_after shape (first_local memory) rs
+
+  two : shape.below ≡ LevelTwo
+  two = subst (λ (s : Shape). s.below ≡ LevelTwo) stands.of_shape stands.shows.below
 
   end_stands : EachStands old.shape end.slice
   end_stands =
       let in_range : IsShape shape = subst IsShape stands.of_shape keeps.reached.in_range in
       subst (λ (s : Shape). EachStands s end.slice) (sym stands.of_shape)
-      (reached_run shape memory rs in_range stands.is_run).stands
+      (reached_run shape memory rs two in_range stands.is_run).stands
 
   at_end : {A : Type 0} (result : Result A BankFault) → IsAnswer old new r.log r.event result →
       AnswerAt old new end r.log r.bank r.event result
   at_end result answer = answer_at old new end r.log r.bank r.event end_stands stands.shows result answer
 
-  rule_at : rule_broken old.shape end r.log r.bank r.event ≡ first_failing OfBank (clauses shape end r)
+  rule_at : rule_broken old.shape end r.log r.bank r.event ≡ first_failing OfBank (step_clauses shape end r)
   rule_at = ap (λ s. rule_broken s end r.log r.bank r.event) stands.of_shape
+      ∙ sym (ap (first_failing OfBank) (two_clauses shape end r two))
 
   pub bank_after_more : {A : Type 0} (result : Result A BankFault) → IsAnswer old new r.log r.event result →
-      OnOk result (IsBankAfter new shape memory (rs ++ r ∷ []))
+      OnOk result (IsBankAfter (Both new) shape memory (rs ++ r ∷ []))
   bank_after_more (Ok done) answer =
       let a = at_end (Ok done) answer in
       record {
         of_shape = a.1 ∙ stands.of_shape;
         is_run = run_more shape (first_local memory) rs r stands.is_run (sym rule_at ∙ a.0);
-        shows = subst (Shows new) (ap (λ s. after_event s end r.log r.event) stands.of_shape
-            ∙ sym (after_more shape (first_local memory) rs r)) a.2;
+        shows = subst (ShowsBoth new) (ap (λ s. after_event s end r.log r.event) stands.of_shape
+            ∙ sym (two_effect shape end r two) ∙ sym (after_more shape (first_local memory) rs r)) a.2;
       }
   bank_after_more (Err fault) answer = tt
 
@@ -130,7 +139,7 @@ pub lent_at : {X : Type 0} (lent : X → Record) (places : List X) (i : ℕ) (pl
     → r ≡ lent place → r ≡ get_or (map lent places) i r
 lent_at lent places i place r lt is told = told ∙ ap lent is ∙ sym (get_or-map lent places i place r lt)
 
-pub stands_next : (view : BankView) (shape : Shape) (memory : FlatMemory) (rs : List Record) (k : ℕ) (r : Record) →
+pub stands_next : (view : AnyView) (shape : Shape) (memory : FlatMemory) (rs : List Record) (k : ℕ) (r : Record) →
     k < length rs → r ≡ get_or rs k r
     → IsBankAfter view shape memory (take k rs ++ r ∷ []) → IsBankAfter view shape memory (take (k + 1) rs)
 stands_next view shape memory rs k r lt is stands = subst (IsBankAfter view shape memory)
@@ -142,7 +151,7 @@ breaks_longer : (shape : Shape) (now : Local) (xs : List Record) (r : Record) (r
 breaks_longer shape now [] r rest rule breaks = breaks
 breaks_longer shape now (x ∷ xs) r rest rule breaks = (
   breaks.0,
-  breaks_longer shape (bank_effect shape now x) xs r
+  breaks_longer shape (step_effect shape now x) xs r
       rest rule breaks.1,
 )
 
@@ -186,11 +195,6 @@ order_next shape bank rs k r lt is fits named numbered order =
 -- ---- the bank's part of memory does for its records
 
 module _ (shape : Shape) (bank : ℕ) where
-  home_next : (a : Local) (r : Record) → Fits shape r → IsHome shape r.bank a.slice →
-      IsHome shape r.bank (bank_effect shape a r).slice
-  home_next a r fits home = home_after shape r.bank (value_at a.memory (accepts a.slice r.event))
-      (replies_at a.slice r.event) a.slice r.log r.event (names_home shape r fits) home
-
   pub run_same : (a b : Local) (rs : List Record) → AllByRecursion (Fits shape) rs →
       AllByRecursion (λ r. r.bank ≡ bank) rs → IsHome shape bank a.slice → SameBank shape bank a b
       → IsRunOf OfBank shape a rs → IsRunOf OfBank shape b rs
@@ -198,11 +202,11 @@ module _ (shape : Shape) (bank : ℕ) where
   run_same a b (r ∷ rs) fit named home same run =
       let here : IsHome shape r.bank a.slice = subst (λ (k : ℕ). IsHome shape k a.slice) (sym named.0) home in
       let alike : SameBank shape r.bank a b = subst (λ (k : ℕ). SameBank shape k a b) (sym named.0) same in (
-        sym (bank_clauses_same shape a b r fit.0 alike) ∙ run.0,
-        run_same (bank_effect shape a r) (bank_effect shape b r) rs fit.1 named.1
-            (subst (λ (k : ℕ). IsHome shape k (bank_effect shape a r).slice) named.0 (home_next a r fit.0 here))
-            (subst (λ (k : ℕ). SameBank shape k (bank_effect shape a r) (bank_effect shape b r)) named.0
-            (bank_effect_same shape a b r here alike)) run.1,
+        sym (step_bank_same shape a b r fit.0 alike) ∙ run.0,
+        run_same (step_effect shape a r) (step_effect shape b r) rs fit.1 named.1
+            (subst (λ (k : ℕ). IsHome shape k (step_effect shape a r).slice) named.0 (step_home shape a r fit.0 here))
+            (subst (λ (k : ℕ). SameBank shape k (step_effect shape a r) (step_effect shape b r)) named.0
+            (step_effect_same shape a b r fit.0 here alike)) run.1,
       )
 
   pub breaks_same : (a b : Local) (rs : List Record) (n : ℕ) (rule : model.Rule) → AllByRecursion (Fits shape) rs →
@@ -212,15 +216,15 @@ module _ (shape : Shape) (bank : ℕ) where
   breaks_same a b [] n rule fit named home same breaks = breaks
   breaks_same a b (r ∷ rs) zero rule fit named home same breaks =
       let alike : SameBank shape r.bank a b = subst (λ (k : ℕ). SameBank shape k a b) (sym named.0) same in
-      sym (bank_clauses_same shape a b r fit.0 alike) ∙ breaks
+      sym (step_bank_same shape a b r fit.0 alike) ∙ breaks
   breaks_same a b (r ∷ rs) (suc n) rule fit named home same breaks =
       let here : IsHome shape r.bank a.slice = subst (λ (k : ℕ). IsHome shape k a.slice) (sym named.0) home in
       let alike : SameBank shape r.bank a b = subst (λ (k : ℕ). SameBank shape k a b) (sym named.0) same in (
-        sym (bank_clauses_same shape a b r fit.0 alike) ∙ breaks.0,
-        breaks_same (bank_effect shape a r) (bank_effect shape b r) rs n rule fit.1 named.1
-            (subst (λ (k : ℕ). IsHome shape k (bank_effect shape a r).slice) named.0 (home_next a r fit.0 here))
-            (subst (λ (k : ℕ). SameBank shape k (bank_effect shape a r) (bank_effect shape b r)) named.0
-            (bank_effect_same shape a b r here alike)) breaks.1,
+        sym (step_bank_same shape a b r fit.0 alike) ∙ breaks.0,
+        breaks_same (step_effect shape a r) (step_effect shape b r) rs n rule fit.1 named.1
+            (subst (λ (k : ℕ). IsHome shape k (step_effect shape a r).slice) named.0 (step_home shape a r fit.0 here))
+            (subst (λ (k : ℕ). SameBank shape k (step_effect shape a r) (step_effect shape b r)) named.0
+            (step_effect_same shape a b r fit.0 here alike)) breaks.1,
       )
 
   pub part_does : (memory : FlatMemory) → SameBank shape bank (first_local (bank_part shape bank memory))

@@ -1,5 +1,5 @@
 -- What a bank knows of a block, as a caller sees it.
-use Rattle.std.specs.Prelude.{◌≡◌, ℕ, map, option_map}
+use Rattle.std.specs.Prelude.{◌≡◌, ℕ, false, map, option_map}
 use Rattle.lf_rules.specs.declared.mask.Mask.{Mask}
 use Rattle.lf_rules.specs.declared.shape.Shape.{Shape}
 use Rattle.lf_rules.specs.Address.{Masks, block_bytes, second_of, sub_block, places}
@@ -27,6 +27,7 @@ masks_in shape cells second = record { items = map (mask_in shape cells second) 
 -- This is what the cells say of a block, and of its second-level block.
 pub record IsSeen (seen : BlockState) (block : ℕ) (shape : Shape) (cells : CellsView) : Type 0 where
   pub line1 : option_map (λ mask. mask.0) seen.line1 ≡ line1_of (first_at cells block) (written_at cells block)
+  pub shared : seen.shared ≡ false
   pub line2 : seen.line2 ≡ line2_of (second_at cells (second_of shape block))
       (masks_in shape cells (second_of shape block))
   pub asked : seen.asked ≡ is_asking (first_at cells block)

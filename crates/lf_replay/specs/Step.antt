@@ -8,32 +8,33 @@ use Rattle.lf_rules.specs.Fits.{Fits}
 use Rattle.lf_rules.specs.Numbers.{numbers_of}
 use Rattle.lf_rules.specs.Outcomes.{first_local}
 use Rattle.lf_rules.specs.State.{Local}
-use Rattle.lf_rules.specs.Table.{OfBank, bank_effect}
+use Rattle.lf_rules.specs.Step.{step_effect}
+use Rattle.lf_rules.specs.Table.{OfBank}
 use Rattle.lf_rules.specs.Run.{IsRunOf, BreaksAt}
 use Rattle.bank_events.specs.declared.fault.BankFault.{BankFault}
 use Rattle.bank_events.specs.declared.fault.BankFault.TheVariants.{Rule, NoMemory}
-use Rattle.bank_events.specs.BankView.{BankView}
+use Rattle.lf_replay.specs.AnyView.{AnyView, shape_of}
 use Rattle.lf_replay.specs.Shows.{Shows}
 
 -- what a step is seen as: its bank, and the state of it
 pub record StepView : Type 0 where
   pub bank : ℕ
-  pub state : BankView
+  pub state : AnyView
 
 -- a record that a trace of the shape may have, and that names the bank
 pub record IsForStep (step : StepView) (r : Record) : Type 0 where
-  pub fits : Fits step.state.shape r
+  pub fits : Fits (shape_of step.state) r
   pub named : r.bank ≡ step.bank
 
 -- the bank's state after these records
 abbrev pub bank_after : Shape → Local → List Record → Local
 bank_after shape now [] = now
-bank_after shape now (r ∷ rs) = bank_after shape (bank_effect shape now r) rs
+bank_after shape now (r ∷ rs) = bank_after shape (step_effect shape now r) rs
 
 -- The records are a run of the bank from the opening state with this memory, and the bank shows the state where it
 -- ends.
-pub record IsBankAfter (view : BankView) (shape : Shape) (memory : FlatMemory) (rs : List Record) : Type 0 where
-  pub of_shape : view.shape ≡ shape
+pub record IsBankAfter (view : AnyView) (shape : Shape) (memory : FlatMemory) (rs : List Record) : Type 0 where
+  pub of_shape : shape_of view ≡ shape
   pub is_run : IsRunOf OfBank shape (first_local memory) rs
   pub shows : Shows view (bank_after shape (first_local memory) rs)
 
@@ -49,12 +50,12 @@ IsFaultAfter shape memory rs r (Rule rule) = BreaksAt OfBank shape (first_local 
 IsFaultAfter shape memory rs r NoMemory = IsRunOf OfBank shape (first_local memory) (rs ++ r ∷ [])
 
 -- a record that is carried out leaves the bank as it is after one record more
-abbrev pub GoesOn : {A : Type 0} → BankView → BankView → Record → Result A BankFault → Type 0
+abbrev pub GoesOn : {A : Type 0} → AnyView → AnyView → Record → Result A BankFault → Type 0
 GoesOn old new r result = (shape : Shape) (memory : FlatMemory) (rs : List Record) → IsBankAfter old shape memory rs
     → OnOk result (IsBankAfter new shape memory (rs ++ r ∷ []))
 
 -- a fault is that of the record, after whatever records the bank stood
-abbrev pub IsFaultOf : {A : Type 0} → BankView → Record → Result A BankFault → Type 0
+abbrev pub IsFaultOf : {A : Type 0} → AnyView → Record → Result A BankFault → Type 0
 IsFaultOf old r result = (shape : Shape) (memory : FlatMemory) (rs : List Record) → IsBankAfter old shape memory rs
     → IfErr result (IsFaultAfter shape memory rs r)
 

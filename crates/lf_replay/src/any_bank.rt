@@ -1,12 +1,20 @@
-//! The state of a bank of any shape, by the organisations of its two levels.
+//! The state of a bank of any shape: by what is below level one, and by the organisations of both levels.
 
-ghost use Rattle.std.specs.Prelude.{◌≡◌, true};
+ghost use Rattle.std.specs.Prelude.{◌≡◌, true, IfOk};
+ghost use Rattle.lf_rules.specs.declared.shape.Below.TheVariants.{LevelTwo};
+ghost use Rattle.lf_rules.specs.Address.{flat_memory};
+ghost use Rattle.lf_rules.specs.InRange.{IsShape};
+ghost use Rattle.lf_rules.specs.Outcomes.{first_local};
+ghost use Rattle.bank_state.specs.Bytes.{bank_part};
 ghost use Rattle.lf_replay.specs.AnyBank.{view_of, second_view_of};
+ghost use Rattle.lf_replay.specs.AnyView.{shape_of};
+ghost use Rattle.lf_replay.specs.Shows.{ShowsReached, Shows};
 
 use crate::state::BankState;
+use bank_alone::Bank as AloneBank;
 use bank_events::{Bank, BankFault};
 use lf_mshr::{Explicit, Implicit, Inverted, Organisation, Request1, Request2};
-use lf_rules::{Block, NoMemory, OrgShape, Shape};
+use lf_rules::{Below, Block, NoMemory, OrgShape, Shape};
 use std::alloc::Global;
 use trace_views::RecordView;
 
@@ -18,18 +26,19 @@ pub enum SecondBank<O1: Organisation<Target = Request1>> {
     Inverted(Bank<O1, Inverted<Request2>>),
 }
 
-/// A bank, by the organisation of level one.
+/// A bank: of both levels, by the organisation of level one, or of a cache by itself.
 #[derive(Drop)]
 pub enum AnyBank {
     Implicit(SecondBank<Implicit<Request1>>),
     Explicit(SecondBank<Explicit<Request1>>),
     Inverted(SecondBank<Inverted<Request1>>),
+    Alone(AloneBank),
 }
 
 impl<O1: Organisation<Target = Request1>> BankState for SecondBank<O1> {
     ghost view = { second_view_of };
 
-    ghost suits = { λ shape. O1.names shape.level1.organisation ≡ true };
+    ghost suits = { λ shape. (shape.below ≡ LevelTwo) × (O1.names shape.level1.organisation ≡ true) };
 
     fn new(
         alloc: Global,
@@ -59,6 +68,31 @@ impl<O1: Organisation<Target = Request1>> BankState for SecondBank<O1> {
     }
 }
 
+/// The opening state of a bank of both levels.
+fn both_levels(
+    alloc: Global,
+    shape: &Shape,
+    memory: &[(u32, Block)],
+    bank: u32,
+) -> Result<AnyBank, NoMemory>
+    requires in_range { IsShape shape.now }
+    requires two { shape.now.below ≡ LevelTwo }
+    ensures opening { IfOk result (λ state. Shows (view_of state)
+        (first_local (bank_part shape.now bank (flat_memory memory.now)))) }
+    ensures reached { IfOk result (λ state. ShowsReached (view_of state)) }
+    ensures shape { IfOk result (λ state. shape_of (view_of state) ≡ shape.now) }
+{
+    match shape.level1.organisation {
+        OrgShape::Implicit { .. } => {
+            Ok(AnyBank::Implicit(SecondBank::new(alloc, shape, memory, bank)?))
+        }
+        OrgShape::Explicit { .. } => {
+            Ok(AnyBank::Explicit(SecondBank::new(alloc, shape, memory, bank)?))
+        }
+        OrgShape::Inverted => Ok(AnyBank::Inverted(SecondBank::new(alloc, shape, memory, bank)?)),
+    }
+}
+
 impl BankState for AnyBank {
     ghost view = { view_of };
 
@@ -70,16 +104,9 @@ impl BankState for AnyBank {
         memory: &[(u32, Block)],
         bank: u32,
     ) -> Result<AnyBank, NoMemory> {
-        match shape.level1.organisation {
-            OrgShape::Implicit { .. } => {
-                Ok(AnyBank::Implicit(SecondBank::new(alloc, shape, memory, bank)?))
-            }
-            OrgShape::Explicit { .. } => {
-                Ok(AnyBank::Explicit(SecondBank::new(alloc, shape, memory, bank)?))
-            }
-            OrgShape::Inverted => Ok(AnyBank::Inverted(SecondBank::new(
-                alloc, shape, memory, bank,
-            )?)),
+        match shape.below {
+            Below::LevelTwo => both_levels(alloc, shape, memory, bank),
+            Below::Outside => Ok(AnyBank::Alone(BankState::new(alloc, shape, memory, bank)?)),
         }
     }
 
@@ -88,6 +115,7 @@ impl BankState for AnyBank {
             AnyBank::Implicit(bank) => bank.apply(item),
             AnyBank::Explicit(bank) => bank.apply(item),
             AnyBank::Inverted(bank) => bank.apply(item),
+            AnyBank::Alone(bank) => BankState::apply(bank, item),
         }
     }
 }

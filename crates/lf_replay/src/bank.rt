@@ -1,6 +1,8 @@
-//! The state of a bank whose organisations are known.
+//! The state of a bank of both levels whose organisations are known.
 
 ghost use Rattle.std.specs.Prelude.{◌≡◌, true};
+ghost use Rattle.lf_rules.specs.declared.shape.Below.TheVariants.{LevelTwo};
+ghost use Rattle.lf_replay.specs.AnyView.{Both};
 
 use crate::state::BankState;
 use bank_events::{Bank, BankFault};
@@ -11,9 +13,9 @@ use trace_views::RecordView;
 
 impl<O1: Organisation<Target = Request1>, O2: Organisation<Target = Request2>> BankState
     for Bank<O1, O2> {
-    ghost view = { λ bank. bank };
+    ghost view = { λ bank. Both bank };
 
-    ghost suits = { λ shape. (O1.names shape.level1.organisation ≡ true)
+    ghost suits = { λ shape. (shape.below ≡ LevelTwo) × (O1.names shape.level1.organisation ≡ true)
         × (O2.names shape.level2.organisation ≡ true) };
 
     fn new(

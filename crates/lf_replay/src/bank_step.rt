@@ -6,6 +6,7 @@ ghost use Rattle.lf_rules.specs.declared.event.Record.{Record};
 ghost use Rattle.lf_rules.specs.Address.{FlatMemory, flat_memory};
 ghost use Rattle.lf_rules.specs.InRange.{IsShape};
 ghost use Rattle.bank_state.specs.Bytes.{bank_part};
+ghost use Rattle.lf_replay.specs.AnyView.{shape_of};
 ghost use Rattle.lf_replay.specs.Step.{IsStepAfter, IsForStep, IsFaultAfter};
 
 use crate::any_bank::AnyBank;
@@ -16,8 +17,7 @@ use std::alloc::Global;
 use std::marker::Model;
 use trace_views::RecordView;
 
-/// The state of one bank's replay: what the bank of both levels holds after the records that it took,
-/// and flat memory.
+/// The state of one bank's replay: what the bank holds after the records that it took, and flat memory.
 #[derive(Drop)]
 pub struct Step {
     bank: u32,
@@ -56,7 +56,7 @@ impl Step {
     pub fn apply(&mut self, item: &Record) -> Result<(), BankFault>
         requires { IsForStep self.old item.now }
         ensures bank { self.new.bank ≡ self.old.bank }
-        ensures shape { self.new.state.shape ≡ self.old.state.shape }
+        ensures shape { shape_of self.new.state ≡ shape_of self.old.state }
         ensures unchanged { OnErr result (self.new ≡ self.old) }
         ensures stands { (shape : Shape) (memory : FlatMemory) (bank : ℕ) (rs : List Record) →
             IsStepAfter self.old shape memory bank rs
@@ -72,7 +72,7 @@ impl Step {
     pub fn apply_view(&mut self, item: &RecordView<'_>) -> Result<(), BankFault>
         requires { IsForStep self.old item.now }
         ensures bank { self.new.bank ≡ self.old.bank }
-        ensures shape { self.new.state.shape ≡ self.old.state.shape }
+        ensures shape { shape_of self.new.state ≡ shape_of self.old.state }
         ensures unchanged { OnErr result (self.new ≡ self.old) }
         ensures stands { (shape : Shape) (memory : FlatMemory) (bank : ℕ) (rs : List Record) →
             IsStepAfter self.old shape memory bank rs

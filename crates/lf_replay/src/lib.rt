@@ -4,9 +4,11 @@
 //! `Step` is that state. It is seen as what it knows block by block, which `specs/` compares with the one
 //! state of the whole system: after any records that it took it stands where a run of the bank ends.
 //! `replay` judges a whole list of records, and `bank_replay` does so for two organisations of registers
-//! that its caller names; it is proved from their laws alone.
+//! that its caller names; it is proved from their laws alone. The bank of a cache by itself is another one, which
+//! holds the state of the model itself; the shape chooses.
 #![tactic(auto)]
 
+mod alone;
 mod any_bank;
 mod bank;
 mod bank_step;

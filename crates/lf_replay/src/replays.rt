@@ -10,9 +10,10 @@ ghost use Rattle.lf_replay.specs.Step.{IsBankOrder};
 use crate::any_bank::AnyBank;
 use crate::lends::Lends;
 use crate::state::BankState;
+use bank_alone::Bank as AloneBank;
 use bank_events::{Bank, BankFault};
 use lf_mshr::{Organisation, Request1, Request2};
-use lf_rules::{Memory, Outcome, Record, Shape};
+use lf_rules::{Below, Memory, Outcome, Record, Shape};
 use std::alloc::Global;
 use trace_views::RecordView;
 
@@ -65,7 +66,10 @@ pub fn bank_replay<O1: Organisation<Target = Request1>, O2: Organisation<Target 
     requires records { IsBankOrder shape.now bank records.now }
     ensures { IsBankOutcome shape.now (flat_memory memory.now.items) records.now result }
 {
-    replay_on::<Bank<O1, O2>, Record>(alloc, shape, memory, bank, records)
+    match shape.below {
+        Below::LevelTwo => replay_on::<Bank<O1, O2>, Record>(alloc, shape, memory, bank, records),
+        Below::Outside => replay_on::<AloneBank, Record>(alloc, shape, memory, bank, records),
+    }
 }
 
 /// Judges a bank's records on a state that suits the shape, wherever the records stand.

@@ -187,6 +187,7 @@ pub fn seen_in(shape: &Shape, cells: &Cells, block: u32) -> BlockState
     let written = written_at(cells, block);
     BlockState {
         line1: line1_of(first, written),
+        shared: false,
         line2: line2_in(shape, cells, second),
         asked: is_asking(first),
         supplied: is_supplied(first),

@@ -7,7 +7,7 @@ ghost use Rattle.lf_rules.specs.Fits.{Fits};
 ghost use Rattle.lf_rules.specs.InRange.{IsShape};
 ghost use Rattle.lf_rules.specs.Outcomes.{first_local};
 ghost use Rattle.bank_state.specs.Bytes.{bank_part};
-ghost use Rattle.bank_events.specs.BankView.{BankView};
+ghost use Rattle.lf_replay.specs.AnyView.{AnyView, shape_of};
 ghost use Rattle.lf_replay.specs.Shows.{ShowsReached, Shows};
 ghost use Rattle.lf_replay.specs.Step.{GoesOn, IsFaultOf};
 
@@ -19,9 +19,9 @@ use trace_views::RecordView;
 /// The state of a bank, which its records move on one by one.
 pub trait BankState {
     // the bank as the contracts see it
-    ghost view: { Self → BankView };
+    ghost view: { Self → AnyView };
 
-    // its registers are organised as the shape says
+    // it is a bank of such shapes: what is below level one and the organisations of registers are its own
     ghost suits: { Shape → Type 0 };
 
     /// The opening state, with the bank's blocks of the memory that a trace names.
@@ -36,15 +36,15 @@ pub trait BankState {
         ensures opening { IfOk result (λ state. Shows (view state)
             (first_local (bank_part shape.now bank (flat_memory memory.now)))) }
         ensures reached { IfOk result (λ state. ShowsReached (view state)) }
-        ensures shape { IfOk result (λ state. (view state).shape ≡ shape.now) };
+        ensures shape { IfOk result (λ state. shape_of (view state) ≡ shape.now) };
 
     /// Judges the record, and carries it out where it breaks no rule of the bank.
     fn apply(&mut self, item: &RecordView<'_>) -> Result<(), BankFault>
         requires reached { ShowsReached (view self.old) }
-        requires fits { Fits (view self.old).shape item.now }
+        requires fits { Fits (shape_of (view self.old)) item.now }
         ensures unchanged { OnErr result (view self.new ≡ view self.old) }
         ensures stands { GoesOn (view self.old) (view self.new) item.now result }
         ensures broken { IsFaultOf (view self.old) item.now result }
         ensures reached { ShowsReached (view self.new) }
-        ensures shape { (view self.new).shape ≡ (view self.old).shape };
+        ensures shape { shape_of (view self.new) ≡ shape_of (view self.old) };
 }

@@ -4,9 +4,10 @@ use Rattle.std.proofs.Common.{eqb-true}
 use Rattle.lf_rules.specs.declared.shape.Shape.{Shape}
 use Rattle.lf_rules.specs.declared.event.Record.{Record}
 use Rattle.lf_rules.specs.declared.event.Event.{Event}
-use Rattle.lf_rules.specs.declared.event.Event.TheVariants.{Issue, Reply, Hit, Primary, Merge}
+use Rattle.lf_rules.specs.declared.event.Event.TheVariants.{Issue, Reply, Hit, Primary, Merge, Masked}
 use Rattle.lf_rules.specs.State.{update, State}
 use Rattle.lf_rules.specs.Table.{request_of, busy_after}
+use Rattle.lf_rules.specs.OuterTable.{masked_request}
 use Rattle.lf_rules.specs.Run.{state_after}
 use Rattle.lf_rules.specs.History.{Act, Issues, Accepts, Replies, act_if, act_of, act}
 
@@ -47,6 +48,8 @@ busy_by : (shape : Shape) (busy : Tags) (log bank : ℕ) (e : Event) (port t : �
     → update busy log (busy_after (busy log) bank e) port t ≡ next_busy (act_of shape port t log e) bank (busy port t)
 busy_by shape busy log bank (Issue op tag size address bytes) port t =
     set_tag busy log tag port t bank (Some bank) (Issues (request_of shape tag op size address bytes.items)) refl
+busy_by shape busy log bank (Masked op tag block mask bytes) port t =
+    set_tag busy log tag port t bank (Some bank) (Issues (masked_request tag op block mask.0 bytes.items)) refl
 busy_by shape busy log bank (Reply tag size bytes) port t = set_tag busy log tag port t bank None Replies refl
 busy_by shape busy log bank (Hit p tag) port t = same_tags busy log port t
     ∙ quiet_if (p == port && tag == t) bank (busy port t)

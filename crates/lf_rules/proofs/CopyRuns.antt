@@ -20,12 +20,14 @@ use Rattle.lf_rules.specs.State.{update, Request, Missed, Ready, Slice, State, o
 use Rattle.lf_rules.specs.Table.{OfBoth, oldest, is_head, value_of, read, written, accepts, miss, replies_at}
 use Rattle.lf_rules.specs.Table.{value_at, carries}
 use Rattle.lf_rules.specs.Table.{rules_of, slice_after, memory_after, busy_after, clauses, block_asked, second_miss}
-use Rattle.lf_rules.specs.Run.{first_failing, state_after, IsRunFrom}
+use Rattle.lf_rules.specs.Run.{first_failing, state_after, IsRunFrom, IsRun}
+use Rattle.lf_rules.specs.declared.shape.Below.TheVariants.{LevelTwo}
+use Rattle.lf_rules.proofs.Chosen.{two_after, two_clauses, two_state}
 use Rattle.lf_rules.specs.Fits.{Fits}
 use Rattle.lf_rules.proofs.FitFacts.{NamesHome, names_home}
 use Rattle.lf_rules.specs.Copies.{Copies, CopyState, serve, served, moves_copy, copies_after, value_by_copy}
 use Rattle.lf_rules.specs.Copies.{replies_by_copy, copy_clauses, copy_state_after, copy_opening, IsCopyRunFrom}
-use Rattle.lf_rules.specs.Laws.{CopyRunsAreRuns}
+use Rattle.lf_rules.specs.Copies.{IsCopyRunOfTwo}
 use Rattle.lf_rules.proofs.Clauses.{AllHold, all_hold}
 use Rattle.lf_rules.proofs.Locality.{IsHome, accepts_home, accepted_apart}
 use Rattle.lf_rules.proofs.Parts.{AreHome, home_step}
@@ -272,7 +274,8 @@ blocks_at : {shape : Shape} {c : CopyState} {s : State} → Agrees shape c s →
 blocks_at {shape = shape} {c = c} {s = s} h bank x e = subst
     (λ b. BlockOk (around shape (s.slice b) c.copies s.memory x)) e (h.blocks x)
 
-module _ (shape : Shape) (some : 0 < shape.factor) (c : CopyState) (s : State) (r : Record) (fits : Fits shape r)
+module _ (shape : Shape) (two : shape.below ≡ LevelTwo) (some : 0 < shape.factor)
+    (c : CopyState) (s : State) (r : Record) (fits : Fits shape r)
     (agrees : Agrees shape c s) (run : first_failing OfBoth (copy_clauses shape c r) ≡ None) where
   -- the copy machine's clauses, over the flat machine's tags and slice
   copy_hold : first_failing OfBoth (rules_of shape (moves_copy shape c.copies r.event) (s.busy r.log) (s.slice r.bank)
@@ -318,8 +321,8 @@ module _ (shape : Shape) (some : 0 < shape.factor) (c : CopyState) (s : State) (
   copies_next = ap (λ (t : Slice). copies_after shape c.copies t r.event) (agrees.slices r.bank)
       ∙ copies_same shape c.copies (s.slice r.bank) r.event
 
-  blocks_next : (x : ℕ) → BlockOk (around shape ((state_after shape s r).slice (bank_of shape x))
-      (copies_after shape c.copies (s.slice r.bank) r.event) (state_after shape s r).memory x)
+  blocks_next : (x : ℕ) → BlockOk (around shape ((two_after shape s r).slice (bank_of shape x))
+      (copies_after shape c.copies (s.slice r.bank) r.event) (two_after shape s r).memory x)
   blocks_next x =
       elim (r.bank == bank_of shape x) as (λ b. (r.bank == bank_of shape x) ≡ b → BlockOk (around shape (cond b
       (slice_after shape (value_at s.memory (accepts (s.slice r.bank) r.event)) (replies_at (s.slice r.bank) r.event)
@@ -344,7 +347,7 @@ module _ (shape : Shape) (some : 0 < shape.factor) (c : CopyState) (s : State) (
             }) (agrees.blocks x)
       ] refl
 
-  agrees_next : Agrees shape (copy_state_after shape c r) (state_after shape s r)
+  agrees_next : Agrees shape (copy_state_after shape c r) (two_after shape s r)
   agrees_next = record {
     tags = ap (λ (b : ℕ → ℕ → Option ℕ). update b r.log (busy_after (b r.log) r.bank r.event)) agrees.tags;
     slices =
@@ -356,9 +359,9 @@ module _ (shape : Shape) (some : 0 < shape.factor) (c : CopyState) (s : State) (
           | true ↦ slices_next
           | false ↦ agrees.slices bank
         ];
-    blocks = λ x. subst (λ (k : Copies). BlockOk (around shape ((state_after shape s r).slice (bank_of shape x)) k
-        (state_after shape s r).memory x)) (sym copies_next) (blocks_next x);
-    home = home_step shape s r fits agrees.home;
+    blocks = λ x. subst (λ (k : Copies). BlockOk (around shape ((two_after shape s r).slice (bank_of shape x)) k
+        (two_after shape s r).memory x)) (sym copies_next) (blocks_next x);
+    home = subst (AreHome shape) (two_state shape s r two) (home_step shape s r fits agrees.home);
     regs =
         λ bank. elim (r.bank == bank) as (λ b. RegsHome shape
         (cond b (slice_after shape (value_at s.memory (accepts (s.slice r.bank) r.event))
@@ -368,18 +371,21 @@ module _ (shape : Shape) (some : 0 < shape.factor) (c : CopyState) (s : State) (
         ];
   }
 
-copies_from : (shape : Shape) → 0 < shape.factor → (rs : List Record) (c : CopyState) (s : State) →
-    AllByRecursion (Fits shape) rs → Agrees shape c s → IsCopyRunFrom shape c rs → IsRunFrom shape s rs
-copies_from shape some [] c s fits agrees run = tt
-copies_from shape some (r ∷ rs) c s fits agrees run = (
-  flat_hold shape some c s r fits.0 agrees run.0,
-  copies_from shape some rs (copy_state_after shape c r) (state_after shape s r) fits.1
-      (agrees_next shape some c s r fits.0 agrees run.0) run.1,
+copies_from : (shape : Shape) → shape.below ≡ LevelTwo → 0 < shape.factor → (rs : List Record) (c : CopyState)
+    (s : State) → AllByRecursion (Fits shape) rs → Agrees shape c s → IsCopyRunFrom shape c rs → IsRunFrom shape s rs
+copies_from shape two some [] c s fits agrees run = tt
+copies_from shape two some (r ∷ rs) c s fits agrees run = (
+  ap (first_failing OfBoth) (two_clauses shape (seen_by r.log r.bank s) r two)
+      ∙ flat_hold shape two some c s r fits.0 agrees run.0,
+  copies_from shape two some rs (copy_state_after shape c r) (state_after shape s r) fits.1
+      (subst (Agrees shape (copy_state_after shape c r)) (sym (two_state shape s r two))
+      (agrees_next shape two some c s r fits.0 agrees run.0)) run.1,
 )
 
-pub copy_runs_are_runs : CopyRunsAreRuns
-copy_runs_are_runs shape memory rs some fits run =
-    copies_from shape some rs (copy_opening memory) (opening memory) fits
+pub copy_runs_of_two : (shape : Shape) (memory : FlatMemory) (rs : List Record) → shape.below ≡ LevelTwo →
+    0 < shape.factor → AllByRecursion (Fits shape) rs → IsCopyRunOfTwo shape memory rs → IsRun shape memory rs
+copy_runs_of_two shape memory rs two some fits run =
+    copies_from shape two some rs (copy_opening memory) (opening memory) fits
     (record {
       tags = refl;
       slices = λ bank. refl;

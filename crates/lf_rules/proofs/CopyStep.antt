@@ -29,13 +29,13 @@ use Rattle.lf_rules.proofs.CopyBlock.{evict2_ok}
 
 -- ---- parts of a slice at a block
 
-flip : (a b : ℕ) → (a == b) ≡ (b == a)
+pub flip : (a b : ℕ) → (a == b) ≡ (b == a)
 flip a b = elim (a == b) as (λ t. (a == b) ≡ t → t ≡ (b == a)) [
   | true ↦ λ e. sym (eq-eqb b a (sym (eqb-true a b e)))
   | false ↦ λ e. sym (ne_eqb b a (λ same. eqb-false a b e (sym same)))
 ] refl
 
-turned : {A : Type 0} (b : Bool) (u v : A) → cond (not b) u v ≡ cond b v u
+pub turned : {A : Type 0} (b : Bool) (u v : A) → cond (not b) u v ≡ cond b v u
 turned true u v = refl
 turned false u v = refl
 
@@ -56,14 +56,15 @@ module _ {M : Type 0} where
       go Equal e = refl
       go Greater e = ap (λ (rest : List (ℕ × M)). l ∷ rest) e
 
-  line_put : (lines : List (ℕ × M)) (x : ℕ) (m : M) (y : ℕ) →
+  pub line_put : (lines : List (ℕ × M)) (x : ℕ) (m : M) (y : ℕ) →
       line_at (with_line lines x m) y ≡ cond (x == y) (Some m) (line_at lines y)
   line_put lines x m y =
       ap (λ (k : List (ℕ × M)). line_at k y) (insert_is_put lines x m) ∙ lookup_is_find (put nat_cmp x m lines) y
       ∙ find-put nat_cmp nat_cmp_total y x m lines ∙ ap₂ (λ b o. cond b (Some m) o) (unsigned_tied y x ∙ flip y x)
       (sym (lookup_is_find lines y))
 
-  line_gone : (lines : List (ℕ × M)) (x y : ℕ) → line_at (without_line lines x) y ≡ cond (x == y) None (line_at lines y)
+  pub line_gone : (lines : List (ℕ × M)) (x y : ℕ) →
+      line_at (without_line lines x) y ≡ cond (x == y) None (line_at lines y)
   line_gone lines x y =
       lookup_is_find (without_line lines x) y
       ∙ find-where_key nat_cmp (λ k. not (k == x)) y (λ k tied. ap (λ n. not (n == x))
@@ -72,7 +73,7 @@ module _ {M : Type 0} where
       (sym (lookup_is_find lines y))
 
 module _ {X : Type 0} (key : X → ℕ) where
-  any_push : (xs : List X) (a : X) (y : ℕ) → list_any (λ x. key x == y) (xs ++ a ∷ [])
+  pub any_push : (xs : List X) (a : X) (y : ℕ) → list_any (λ x. key x == y) (xs ++ a ∷ [])
       ≡ cond (key a == y) true (list_any (λ x. key x == y) xs)
   any_push [] a y = elim (key a == y) as (λ b. (b || false) ≡ cond b true false) [ true ↦ refl | false ↦ refl ]
   any_push (x ∷ xs) a y = ap (λ b. (key x == y) || b) (any_push xs a y)
@@ -83,7 +84,7 @@ module _ {X : Type 0} (key : X → ℕ) where
       swap true false r = refl
       swap false q r = refl
 
-  any_gone : (xs : List X) (x y : ℕ) → list_any (λ a. key a == y) (filter (λ a. not (key a == x)) xs)
+  pub any_gone : (xs : List X) (x y : ℕ) → list_any (λ a. key a == y) (filter (λ a. not (key a == x)) xs)
       ≡ cond (x == y) false (list_any (λ a. key a == y) xs)
   any_gone [] x y = elim (x == y) as (λ b. false ≡ cond b false false) [ true ↦ refl | false ↦ refl ]
   any_gone (a ∷ xs) x y = go (key a == x) refl (any_gone xs x y)
@@ -107,7 +108,7 @@ module _ {X : Type 0} (key : X → ℕ) where
           other true f = ap (λ k. (key a == k) || false) (sym (eqb-true x y f)) ∙ ap (λ d. d || false) e
           other false f = refl
 
-targets_push : (w : List (Held Missed)) (h : Held Missed) (y : ℕ) →
+pub targets_push : (w : List (Held Missed)) (h : Held Missed) (y : ℕ) →
     targets_of (w ++ h ∷ []) y ≡ cond (h.block == y) (targets_of w y ++ h ∷ []) (targets_of w y)
 targets_push [] h y = refl
 targets_push (g ∷ w) h y = push (g.block == y) (h.block == y) (targets_push w h y)
@@ -121,7 +122,7 @@ targets_push (g ∷ w) h y = push (g.block == y) (h.block == y) (targets_push w 
     push false true e = e
     push false false e = e
 
-targets_gone : (w : List (Held Missed)) (x y : ℕ) → targets_of (released w x) y ≡ cond (x == y) [] (targets_of w y)
+pub targets_gone : (w : List (Held Missed)) (x y : ℕ) → targets_of (released w x) y ≡ cond (x == y) [] (targets_of w y)
 targets_gone [] x y = elim (x == y) as (λ b. ◌≡◌ {A = List (Held Missed)} [] (cond b [] []))
     [ true ↦ refl | false ↦ refl ]
 targets_gone (g ∷ w) x y = go (g.block == x) refl (targets_gone w x y)

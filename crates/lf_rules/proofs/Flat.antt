@@ -10,7 +10,7 @@ use Rattle.std.specs.List.{list_any, AllByRecursion, filter, range_with_len}
 use Rattle.lf_rules.specs.declared.shape.Shape.{Shape}
 use Rattle.lf_rules.specs.declared.event.Record.{Record}
 use Rattle.lf_rules.specs.declared.event.Event.{Event}
-use Rattle.lf_rules.specs.declared.event.Event.TheVariants.{Issue, Reply, Hit, Primary, Merge, Fill1}
+use Rattle.lf_rules.specs.declared.event.Event.TheVariants.{Issue, Reply, Hit, Primary, Merge, Fill1, Masked}
 use Rattle.lf_rules.specs.Address.{FlatMemory}
 use Rattle.lf_rules.specs.Registers.{Held, targets_of}
 use Rattle.lf_rules.specs.State.{update, Request, Missed, Ready, Slice, State, opening, seen_by}
@@ -18,12 +18,13 @@ use Rattle.lf_rules.specs.Table.{request_of, OfBoth, is_store, oldest, is_head, 
 use Rattle.lf_rules.specs.Table.{is_at, is_ready_for, first_ready}
 use Rattle.lf_rules.specs.Table.{without_ready, reply_of, replies_at, miss, carries, rules_of, accepts, slice_after}
 use Rattle.lf_rules.specs.Table.{clauses}
-use Rattle.lf_rules.specs.Run.{first_failing, state_after, IsRunFrom}
+use Rattle.lf_rules.specs.Run.{first_failing, state_after, IsRunFrom, IsRun}
+use Rattle.lf_rules.specs.declared.shape.Below.TheVariants.{LevelTwo}
+use Rattle.lf_rules.proofs.Chosen.{two_after, two_clauses, two_state}
 use Rattle.lf_rules.specs.History.{Act, Issues, Accepts, Replies, Nothing, act_if, act_of, act, latest_issue}
 use Rattle.lf_rules.specs.History.{before_acceptance, times_after}
 use Rattle.lf_rules.specs.History.{times_accepted, accepted_by, bytes_after, issue_after, acceptance_after, IsFlatAt}
-use Rattle.lf_rules.specs.History.{IsFlatFrom}
-use Rattle.lf_rules.specs.Laws.{RunsAreFlat}
+use Rattle.lf_rules.specs.History.{IsFlatFrom, IsFlatOfTwo}
 use Rattle.lf_rules.proofs.Clauses.{AllHold, all_hold}
 use Rattle.lf_rules.proofs.Busy.{next_busy, busy_at}
 use Rattle.lf_rules.proofs.Owed.{bit, counted, queued_as, waits_as, held_count, count_of, owed, CountMoves, HeldMoves}
@@ -39,7 +40,7 @@ pub record IsAccepted (shape : Shape) (initial : FlatMemory) (history : List Rec
   pub accepted : before_acceptance shape port tag history ≡ Some older
   pub known : value ≡ value_of (bytes_after shape initial older) request
 
-abbrev QueuedOk : Shape → List Record → ℕ → Request → Type 0
+abbrev pub QueuedOk : Shape → List Record → ℕ → Request → Type 0
 QueuedOk shape history port q = latest_issue shape port q.tag history ≡ Some q
 
 abbrev WaitingOk : Shape → FlatMemory → List Record → Held Missed → Type 0
@@ -64,23 +65,23 @@ pub record StateOk (shape : Shape) (initial : FlatMemory) (history : List Record
 -- ---- what an act needs
 
 -- of a port's tag that is busy or not, with so many queued in the record's bank
-abbrev Allowed : Act → ℕ → Option ℕ → ℕ → Type 0
+abbrev pub Allowed : Act → ℕ → Option ℕ → ℕ → Type 0
 Allowed (Issues request) bank busy queued = busy ≡ None
 Allowed Accepts bank busy queued = 1 ≤ queued
 Allowed Replies bank busy queued = is_at busy bank ≡ true
 Allowed Nothing bank busy queued = Unit {0}
 
-none_of : (o : Option ℕ) → is_none o ≡ true → o ≡ None
+pub none_of : (o : Option ℕ) → is_none o ≡ true → o ≡ None
 none_of None e = refl
 none_of (Some x) e = absurd (both_ways false refl e)
 
-allowed_if : (a b : Bool) (act : Act) (bank : ℕ) (busy : Option ℕ) (queued : ℕ) →
+pub allowed_if : (a b : Bool) (act : Act) (bank : ℕ) (busy : Option ℕ) (queued : ℕ) →
     (a ≡ true → b ≡ true → Allowed act bank busy queued) → Allowed (act_if (a && b) act) bank busy queued
 allowed_if true true act bank busy queued f = f refl refl
 allowed_if true false act bank busy queued f = tt
 allowed_if false b act bank busy queued f = tt
 
-head_queued : (slice : Slice) (p tag port t : ℕ) → is_head (slice.queue p) tag ≡ true → (p == port) ≡ true →
+pub head_queued : (slice : Slice) (p tag port t : ℕ) → is_head (slice.queue p) tag ≡ true → (p == port) ≡ true →
     (tag == t) ≡ true → 1 ≤ counted (queued_as t) (slice.queue port)
 head_queued slice p tag port t head e f =
     let n = ap (λ k. counted (queued_as t) (slice.queue k)) (sym (eqb-true p port e))
@@ -88,34 +89,56 @@ head_queued slice p tag port t head e f =
     in
     omega (arith, n)
 
-allowed : (shape : Shape) (right : Bool) (tags : ℕ → ℕ → Option ℕ) (slice : Slice) (log bank : ℕ) (e : Event) →
-    AllHold (rules_of shape right (tags log) slice log bank e)
+-- what a record needs of the tags and the queues
+abbrev pub Needs : (ℕ → ℕ → Option ℕ) → Slice → ℕ → ℕ → Event → Type 0
+Needs tags slice log bank (Issue op tag size address bytes) = is_none (tags log tag) ≡ true
+Needs tags slice log bank (Masked op tag block mask bytes) = is_none (tags log tag) ≡ true
+Needs tags slice log bank (Reply tag size bytes) = is_at (tags log tag) bank ≡ true
+Needs tags slice log bank (Hit p tag) = is_head (slice.queue p) tag ≡ true
+Needs tags slice log bank (Primary p tag register) = is_head (slice.queue p) tag ≡ true
+Needs tags slice log bank (Merge p tag register) = is_head (slice.queue p) tag ≡ true
+Needs tags slice log bank _ = Unit {0}
+
+pub allowed : (shape : Shape) (tags : ℕ → ℕ → Option ℕ) (slice : Slice) (log bank : ℕ) (e : Event) →
+    Needs tags slice log bank e
     → (port t : ℕ) → Allowed (act_of shape port t log e) bank (tags port t) (counted (queued_as t) (slice.queue port))
-allowed shape right tags slice log bank (Issue op tag size address bytes) holds port t =
+allowed shape tags slice log bank (Issue op tag size address bytes) need port t =
     allowed_if (log == port) (tag == t) _ bank (tags port t) _
-    (λ e f. ap₂ tags (sym (eqb-true log port e)) (sym (eqb-true tag t f)) ∙ none_of (tags log tag) holds.1.0)
-allowed shape right tags slice log bank (Reply tag size bytes) holds port t =
+    (λ e f. ap₂ tags (sym (eqb-true log port e)) (sym (eqb-true tag t f)) ∙ none_of (tags log tag) need)
+allowed shape tags slice log bank (Masked op tag block mask bytes) need port t =
+    allowed_if (log == port) (tag == t) _ bank (tags port t) _
+    (λ e f. ap₂ tags (sym (eqb-true log port e)) (sym (eqb-true tag t f)) ∙ none_of (tags log tag) need)
+allowed shape tags slice log bank (Reply tag size bytes) need port t =
     allowed_if (log == port) (tag == t) Replies bank (tags port t) (counted (queued_as t) (slice.queue port))
-    (λ e f. ap₂ (λ k u. is_at (tags k u) bank) (sym (eqb-true log port e)) (sym (eqb-true tag t f)) ∙ holds.1.0)
-allowed shape right tags slice log bank (Hit p tag) holds port t =
-    allowed_if (p == port) (tag == t) Accepts bank (tags port t) _
-    (λ e f. head_queued slice p tag port t (and_parts _ (is_head (slice.queue p) tag) holds.0).1 e f)
-allowed shape right tags slice log bank (Primary p tag register) holds port t =
-    allowed_if (p == port) (tag == t) Accepts bank (tags port t) _
-    (λ e f. head_queued slice p tag port t (and_parts _ (is_head (slice.queue p) tag) holds.0).1 e f)
-allowed shape right tags slice log bank (Merge p tag register) holds port t =
-    allowed_if (p == port) (tag == t) Accepts bank (tags port t) _
-    (λ e f. head_queued slice p tag port t (and_parts _ (is_head (slice.queue p) tag) holds.0).1 e f)
-allowed shape right tags slice log bank _ holds port t = tt
+    (λ e f. ap₂ (λ k u. is_at (tags k u) bank) (sym (eqb-true log port e)) (sym (eqb-true tag t f)) ∙ need)
+allowed shape tags slice log bank (Hit p tag) need port t =
+    allowed_if (p == port) (tag == t) Accepts bank (tags port t) _ (head_queued slice p tag port t need)
+allowed shape tags slice log bank (Primary p tag register) need port t =
+    allowed_if (p == port) (tag == t) Accepts bank (tags port t) _ (head_queued slice p tag port t need)
+allowed shape tags slice log bank (Merge p tag register) need port t =
+    allowed_if (p == port) (tag == t) Accepts bank (tags port t) _ (head_queued slice p tag port t need)
+allowed shape tags slice log bank _ need port t = tt
+
+needs_two : (shape : Shape) (right : Bool) (tags : ℕ → ℕ → Option ℕ) (slice : Slice) (log bank : ℕ) (e : Event) →
+    AllHold (rules_of shape right (tags log) slice log bank e) → Needs tags slice log bank e
+needs_two shape right tags slice log bank (Issue op tag size address bytes) holds = holds.1.0
+needs_two shape right tags slice log bank (Masked op tag block mask bytes) holds = absurd (both_ways false refl holds.0)
+needs_two shape right tags slice log bank (Reply tag size bytes) holds = holds.1.0
+needs_two shape right tags slice log bank (Hit p tag) holds = (and_parts _ (is_head (slice.queue p) tag) holds.0).1
+needs_two shape right tags slice log bank (Primary p tag register) holds =
+    (and_parts _ (is_head (slice.queue p) tag) holds.0).1
+needs_two shape right tags slice log bank (Merge p tag register) holds =
+    (and_parts _ (is_head (slice.queue p) tag) holds.0).1
+needs_two shape right tags slice log bank _ holds = tt
 
 -- ---- counts
 
-bit_le : (b : Bool) → bit b ≤ 1
+pub bit_le : (b : Bool) → bit b ≤ 1
 bit_le true = omega arith
 bit_le false = omega arith
 
 -- a tag is owed by one bank at most
-owed_once : (o : Option ℕ) (b c : ℕ) → 1 ≤ owed o b → 1 ≤ owed o c → b ≡ c
+pub owed_once : (o : Option ℕ) (b c : ℕ) → 1 ≤ owed o b → 1 ≤ owed o c → b ≡ c
 owed_once None b c x y = absurd (omega arith)
 owed_once (Some k) b c x y =
     (elim (cases_Bool (k == b)) [
@@ -148,16 +171,16 @@ counts_apart Nothing bank other o queued apart free = refl
 
 -- ---- a history grows
 
-abbrev IsQuiet : Act → Type 0
+abbrev pub IsQuiet : Act → Type 0
 IsQuiet (Issues request) = ⊥
 IsQuiet Accepts = ⊥
 IsQuiet _ = Unit {0}
 
-abbrev IsNoIssue : Act → Type 0
+abbrev pub IsNoIssue : Act → Type 0
 IsNoIssue (Issues request) = ⊥
 IsNoIssue _ = Unit {0}
 
-quiet_issue : (a : Act) (before : Option Request) → IsNoIssue a → issue_after a before ≡ before
+pub quiet_issue : (a : Act) (before : Option Request) → IsNoIssue a → issue_after a before ≡ before
 quiet_issue (Issues request) before q = absurd q
 quiet_issue Accepts before q = refl
 quiet_issue Replies before q = refl
@@ -170,7 +193,7 @@ quiet_acceptance Accepts history before q = absurd q
 quiet_acceptance Replies history before q = refl
 quiet_acceptance Nothing history before q = refl
 
-quiet_no_issue : (a : Act) → IsQuiet a → IsNoIssue a
+pub quiet_no_issue : (a : Act) → IsQuiet a → IsNoIssue a
 quiet_no_issue (Issues request) q = q
 quiet_no_issue Accepts q = tt
 quiet_no_issue Replies q = tt
@@ -188,7 +211,7 @@ older_accepted shape initial history r port tag request value quiet h = record {
 }
 
 -- what holds of each element goes on to hold, if its kind is counted
-all_keep : {X : Type 0} (P Q : X → Type 0) (kind : X → X → Bool) (bound : X → ℕ) → ((x : X) → kind x x ≡ true) →
+pub all_keep : {X : Type 0} (P Q : X → Type 0) (kind : X → X → Bool) (bound : X → ℕ) → ((x : X) → kind x x ≡ true) →
     ((x : X) → 1 ≤ bound x → P x → Q x)
     → (xs : List X) → ((x : X) → counted (kind x) xs ≤ bound x) → AllByRecursion P xs → AllByRecursion Q xs
 all_keep P Q kind bound itself keep [] within all = tt
@@ -197,7 +220,7 @@ all_keep P Q kind bound itself keep (x ∷ xs) within all = (
   all_keep P Q kind bound itself keep xs (λ y. let n = within y in omega (arith, n)) all.1,
 )
 
-same_pair : (a b : ℕ) → (a == a && b == b) ≡ true
+pub same_pair : (a b : ℕ) → (a == a && b == b) ≡ true
 same_pair a b = ap₂ (λ x y. x && y) (eq-eqb a a refl) (eq-eqb b b refl)
 
 -- a bank's requests are known as before, once a record is added
@@ -225,7 +248,8 @@ older_slice shape initial history r slice no_issue quiet ok = record {
       slice.ready (λ h. omega arith) ok.ready;
 }
 
-no_issue_of : (a : Act) (bank : ℕ) (o : Option ℕ) (queued other n : ℕ) → Allowed a bank o queued → n ≡ owed o other →
+pub no_issue_of : (a : Act) (bank : ℕ) (o : Option ℕ) (queued other n : ℕ) →
+    Allowed a bank o queued → n ≡ owed o other →
     1 ≤ n → IsNoIssue a
 no_issue_of (Issues request) bank o queued other n free e one = let z : owed o other ≡ 0 =
     ap (λ x. owed x other) free in omega (arith, e, z)
@@ -234,7 +258,7 @@ no_issue_of Replies bank o queued other n free e one = tt
 no_issue_of Nothing bank o queued other n free e one = tt
 
 -- a tag that a bank holds, missed or ready, is neither issued nor accepted
-quiet_of : (a : Act) (state : State) (bank : ℕ) (port t other : ℕ) →
+pub quiet_of : (a : Act) (state : State) (bank : ℕ) (port t other : ℕ) →
     ((b : ℕ) → count_of (state.slice b) port t ≡ owed (state.busy port t) b)
     → Allowed a bank (state.busy port t) (counted (queued_as t) ((state.slice bank).queue port)) →
     1 ≤ held_count (state.slice other) port t → IsQuiet a
@@ -255,27 +279,27 @@ quiet_of Nothing state bank port t other counts free one = tt
 
 -- ---- the effect
 
-update_keeps : {X : Type 0} (P : ℕ → X → Type 0) (f : ℕ → X) (k : ℕ) (v : X) → P k v → ((n : ℕ) → P n (f n)) →
+pub update_keeps : {X : Type 0} (P : ℕ → X → Type 0) (f : ℕ → X) (k : ℕ) (v : X) → P k v → ((n : ℕ) → P n (f n)) →
     (n : ℕ) → P n (update f k v n)
 update_keeps P f k v now rest n =
     elim (k == n) as (λ b. (k == n) ≡ b → P n (cond b v (f n)))
     [ true ↦ λ e. subst (λ j. P j v) (eqb-true k n e) now | false ↦ λ e. rest n ] refl
 
-push_all : {X : Type 0} (P : X → Type 0) (xs : List X) (x : X) → AllByRecursion P xs → P x →
+pub push_all : {X : Type 0} (P : X → Type 0) (xs : List X) (x : X) → AllByRecursion P xs → P x →
     AllByRecursion P (xs ++ x ∷ [])
 push_all P [] x h p = (p, tt)
 push_all P (y ∷ xs) x h p = (h.0, push_all P xs x h.1 p)
 
-append_all : {X : Type 0} (P : X → Type 0) (xs ys : List X) → AllByRecursion P xs → AllByRecursion P ys →
+pub append_all : {X : Type 0} (P : X → Type 0) (xs ys : List X) → AllByRecursion P xs → AllByRecursion P ys →
     AllByRecursion P (xs ++ ys)
 append_all P [] ys h k = k
 append_all P (y ∷ xs) ys h k = (h.0, append_all P xs ys h.1 k)
 
-pop_all : {X : Type 0} (P : X → Type 0) (xs : List X) → AllByRecursion P xs → AllByRecursion P (drop 1 xs)
+pub pop_all : {X : Type 0} (P : X → Type 0) (xs : List X) → AllByRecursion P xs → AllByRecursion P (drop 1 xs)
 pop_all P [] h = tt
 pop_all P (x ∷ xs) h = h.1
 
-filter_all : {X : Type 0} (P : X → Type 0) (p : X → Bool) (xs : List X) → AllByRecursion P xs →
+pub filter_all : {X : Type 0} (P : X → Type 0) (p : X → Bool) (xs : List X) → AllByRecursion P xs →
     AllByRecursion P (filter p xs)
 filter_all P p [] h = tt
 filter_all P p (x ∷ xs) h = go (p x) (filter_all P p xs h.1)
@@ -284,7 +308,7 @@ filter_all P p (x ∷ xs) h = go (p x) (filter_all P p xs h.1)
     go true rest = (h.0, rest)
     go false rest = rest
 
-without_all : (P : Ready → Type 0) (rs : List Ready) (port tag : ℕ) → AllByRecursion P rs →
+pub without_all : (P : Ready → Type 0) (rs : List Ready) (port tag : ℕ) → AllByRecursion P rs →
     AllByRecursion P (without_ready rs port tag)
 without_all P [] port tag h = tt
 without_all P (r ∷ rs) port tag h = go (is_ready_for port tag r) (without_all P rs port tag h.1)
@@ -300,14 +324,15 @@ replies_all : (shape : Shape) (initial : FlatMemory) (history : List Record) (hs
 replies_all shape initial history [] h = tt
 replies_all shape initial history (x ∷ hs) h = ((x.target.request, h.0), replies_all shape initial history hs h.1)
 
-head_issued : (shape : Shape) (history : List Record) (port : ℕ) (qs : List Request) (tag : ℕ) → is_head qs tag ≡ true
+pub head_issued : (shape : Shape) (history : List Record) (port : ℕ) (qs : List Request) (tag : ℕ) →
+    is_head qs tag ≡ true
     → AllByRecursion (QueuedOk shape history port) qs → latest_issue shape port tag history ≡ Some (oldest qs)
 head_issued shape history port [] tag e h = absurd (both_ways false refl e)
 head_issued shape history port (q ∷ qs) tag e h = ap (λ k. latest_issue shape port k history)
     (sym (eqb-true q.tag tag e)) ∙ h.0
 
 -- the act of an acceptance
-accepts_now : (port tag : ℕ) → act_if (port == port && tag == tag) Accepts ≡ Accepts
+pub accepts_now : (port tag : ℕ) → act_if (port == port && tag == tag) Accepts ≡ Accepts
 accepts_now port tag = ap (λ b. act_if b Accepts) (same_pair port tag)
 
 module _ (shape : Shape) (initial : FlatMemory) (history : List Record) (memory : FlatMemory)
@@ -412,7 +437,7 @@ module _ (shape : Shape) (initial : FlatMemory) (history : List Record) (memory 
 
 -- ---- the step
 
-bytes_are : (xs ys : List ℕ) → bytes_eq xs ys ≡ true → xs ≡ ys
+pub bytes_are : (xs ys : List ℕ) → bytes_eq xs ys ≡ true → xs ≡ ys
 bytes_are [] [] e = refl
 bytes_are [] (y ∷ ys) e = absurd (both_ways false refl e)
 bytes_are (x ∷ xs) [] e = absurd (both_ways false refl e)
@@ -445,7 +470,7 @@ load_length m q e =
     ap length (cond-false (is_store q) [] (map (λ i. m q.block (q.offset + i)) (range_with_len 0 q.size)) e)
     ∙ length-map-range_with_len (λ i. m q.block (q.offset + i)) 0 q.size
 
-ready_counted : (rs : List Ready) (port t : ℕ) → list_any (is_ready_for port t) rs ≡ true →
+pub ready_counted : (rs : List Ready) (port t : ℕ) → list_any (is_ready_for port t) rs ≡ true →
     1 ≤ counted (is_ready_for port t) rs
 ready_counted [] port t there = absurd (both_ways false refl there)
 ready_counted (r ∷ rs) port t there = go (is_ready_for port t r) there (ready_counted rs port t)
@@ -457,7 +482,7 @@ ready_counted (r ∷ rs) port t there = go (is_ready_for port t r) there (ready_
     go false e rest = let n = rest e in omega (arith, n)
 
 -- the tag that a bank owes a reply that is ready was accepted once
-accepted_once : (shape : Shape) (history : List Record) (o : Option ℕ) (slice : Slice) (bank port t : ℕ) →
+pub accepted_once : (shape : Shape) (history : List Record) (o : Option ℕ) (slice : Slice) (bank port t : ℕ) →
     count_of slice port t ≡ owed o bank
     → (owed o bank ≡ 1 → times_accepted shape port t history ≡ held_count slice port t)
     → is_at o bank ≡ true → list_any (is_ready_for port t) slice.ready ≡ true → times_accepted shape port t history ≡ 1
@@ -487,7 +512,7 @@ flat_at shape initial history right busy slice log bank (Reply tag size bytes) h
     }
 flat_at shape initial history right busy slice log bank _ holds ok once = tt
 
-counts_after : (shape : Shape) (state : State) (r : Record) (new : Slice) (bank port t : ℕ)
+pub counts_after : (shape : Shape) (state : State) (r : Record) (new : Slice) (bank port t : ℕ)
     → Allowed (act shape port t r) r.bank (state.busy port t) (counted (queued_as t) ((state.slice r.bank).queue port))
     → ((b : ℕ) → count_of (state.slice b) port t ≡ owed (state.busy port t) b)
     → CountMoves (act shape port t r) (count_of (state.slice r.bank) port t) (count_of new port t)
@@ -522,7 +547,7 @@ times_apart Accepts bank other o queued held times old apart some all before now
 times_apart Replies bank other o queued held times old apart may all before now = absurd (omega (arith, now))
 times_apart Nothing bank other o queued held times old apart may all before now = before now
 
-times_step : (shape : Shape) (history : List Record) (state : State) (r : Record) (new : Slice) (bank port t : ℕ)
+pub times_step : (shape : Shape) (history : List Record) (state : State) (r : Record) (new : Slice) (bank port t : ℕ)
     → Allowed (act shape port t r) r.bank (state.busy port t) (counted (queued_as t) ((state.slice r.bank).queue port))
     → count_of (state.slice r.bank) port t ≡ owed (state.busy port t) r.bank
     → ((b : ℕ) → owed (state.busy port t) b ≡ 1 → times_accepted shape port t history
@@ -545,14 +570,15 @@ times_step shape history state r new bank port t may counts times moves =
 
 state_ok : (shape : Shape) (initial : FlatMemory) (history : List Record) (state : State) (r : Record)
     → first_failing OfBoth (clauses shape (seen_by r.log r.bank state) r) ≡ None →
-    StateOk shape initial history state → StateOk shape initial (r ∷ history) (state_after shape state r)
+    StateOk shape initial history state → StateOk shape initial (r ∷ history) (two_after shape state r)
 state_ok shape initial history state r clauses_hold ok =
     let right : Bool = carries shape state.memory (state.slice r.bank) r.event in
     let holds : AllHold (rules_of shape right (state.busy r.log) (state.slice r.bank) r.log r.bank r.event) =
     all_hold (rules_of shape right (state.busy r.log) (state.slice r.bank) r.log r.bank r.event) clauses_hold in
     let may : (port t : ℕ) → Allowed (act shape port t r) r.bank (state.busy port t)
     (counted (queued_as t) ((state.slice r.bank).queue port)) =
-    allowed shape right state.busy (state.slice r.bank) r.log r.bank r.event holds in
+    allowed shape state.busy (state.slice r.bank) r.log r.bank r.event
+    (needs_two shape right state.busy (state.slice r.bank) r.log r.bank r.event holds) in
     let grown : (bank : ℕ) → SliceOk shape initial (r ∷ history) (state.slice bank) = λ bank.
     older_slice shape initial history r (state.slice bank)
     (λ port t one. no_issue_of (act shape port t r) r.bank (state.busy port t) _ bank _ (may port t)
@@ -563,14 +589,16 @@ state_ok shape initial history state r clauses_hold ok =
       memory = accepted_is shape initial history state.memory ok.memory right (state.busy r.log) (state.slice r.bank)
           r.log r.bank r.event holds (ok.slices r.bank);
       counts = λ bank port t.
-          let tags = busy_at shape state r port t in
+          let tags : (two_after shape state r).busy port t ≡ next_busy (act shape port t r) r.bank (state.busy port t) =
+          busy_at shape state r port t in
           let moves = count_after shape right (state.busy r.log)
           (value_at state.memory (accepts (state.slice r.bank) r.event)) (state.slice r.bank) r.log r.bank r.event
           holds port t in
           counts_after shape state r _ bank port t (may port t) (λ b. ok.counts b port t) moves
           ∙ ap (λ o. owed o bank) (sym tags);
       times = λ bank port t now.
-          let tags = busy_at shape state r port t in
+          let tags : (two_after shape state r).busy port t ≡ next_busy (act shape port t r) r.bank (state.busy port t) =
+          busy_at shape state r port t in
           let moves = held_after shape right (state.busy r.log)
           (value_at state.memory (accepts (state.slice r.bank) r.event)) (state.slice r.bank) r.log r.bank r.event
           holds port t in
@@ -581,23 +609,27 @@ state_ok shape initial history state r clauses_hold ok =
           r.event refl holds (ok.slices r.bank) (grown r.bank)) grown;
     }
 
-flat_from : (shape : Shape) (initial : FlatMemory) (rs history : List Record) (state : State) →
+flat_from : (shape : Shape) (initial : FlatMemory) (rs history : List Record) (state : State) → shape.below ≡ LevelTwo →
     StateOk shape initial history state → IsRunFrom shape state rs → IsFlatFrom shape initial history rs
-flat_from shape initial [] history state ok run = tt
-flat_from shape initial (r ∷ rs) history state ok run =
-    let right : Bool = carries shape state.memory (state.slice r.bank) r.event in (
+flat_from shape initial [] history state two ok run = tt
+flat_from shape initial (r ∷ rs) history state two ok run =
+    let right : Bool = carries shape state.memory (state.slice r.bank) r.event in
+    let holds : first_failing OfBoth (clauses shape (seen_by r.log r.bank state) r) ≡ None =
+    sym (ap (first_failing OfBoth) (two_clauses shape (seen_by r.log r.bank state) r two)) ∙ run.0 in (
       flat_at shape initial history right (state.busy r.log) (state.slice r.bank) r.log r.bank r.event
-          (all_hold (rules_of shape right (state.busy r.log) (state.slice r.bank) r.log r.bank r.event) run.0)
+          (all_hold (rules_of shape right (state.busy r.log) (state.slice r.bank) r.log r.bank r.event) holds)
           (ok.slices r.bank)
           (λ t. accepted_once shape history (state.busy r.log t) (state.slice r.bank) r.bank r.log t
           (ok.counts r.bank r.log t) (ok.times r.bank r.log t)),
-      flat_from shape initial rs (r ∷ history) (state_after shape state r)
-          (state_ok shape initial history state r run.0 ok) run.1,
+      flat_from shape initial rs (r ∷ history) (state_after shape state r) two
+          (subst (StateOk shape initial (r ∷ history)) (sym (two_state shape state r two))
+          (state_ok shape initial history state r holds ok)) run.1,
     )
 
-pub runs_are_flat : RunsAreFlat
-runs_are_flat shape memory rs run =
-    flat_from shape memory rs [] (opening memory)
+pub runs_are_flat_of_two : (shape : Shape) (memory : FlatMemory) (rs : List Record) → shape.below ≡ LevelTwo →
+    IsRun shape memory rs → IsFlatOfTwo shape memory rs
+runs_are_flat_of_two shape memory rs two run =
+    flat_from shape memory rs [] (opening memory) two
     (record {
       memory = refl;
       counts = λ bank port t. refl;

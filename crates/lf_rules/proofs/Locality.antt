@@ -90,11 +90,12 @@ port_clauses_same shape a b r same =
 -- ---- what an acceptance looks at and changes
 
 -- a request of this bank, or none
-abbrev IsOfBank : Shape → ℕ → Option Request → Type 0
+abbrev pub IsOfBank : Shape → ℕ → Option Request → Type 0
 IsOfBank shape bank None = Unit {0}
 IsOfBank shape bank (Some q) = (q ≡ nobody) ⊎ (bank_of shape q.block ≡ bank)
 
-oldest_home : (shape : Shape) (bank : ℕ) (qs : List Request) → AllByRecursion (λ q. bank_of shape q.block ≡ bank) qs →
+pub oldest_home : (shape : Shape) (bank : ℕ) (qs : List Request) →
+    AllByRecursion (λ q. bank_of shape q.block ≡ bank) qs →
     IsOfBank shape bank (Some (oldest qs))
 oldest_home shape bank [] h = inl refl
 oldest_home shape bank (q ∷ qs) h = inr h.0
@@ -148,16 +149,16 @@ bank_effect_same shape a b r home same =
 
 -- ---- queues stay home
 
-update_keeps : {X : Type 0} (P : X → Type 0) (f : ℕ → X) (k : ℕ) (v : X) → P v → ((n : ℕ) → P (f n)) → (n : ℕ) →
+pub update_keeps : {X : Type 0} (P : X → Type 0) (f : ℕ → X) (k : ℕ) (v : X) → P v → ((n : ℕ) → P (f n)) → (n : ℕ) →
     P (update f k v n)
 update_keeps P f k v now rest n = elim (k == n) as (λ b. P (cond b v (f n))) [ true ↦ now | false ↦ rest n ]
 
-push_keeps : {X : Type 0} (P : X → Type 0) (xs : List X) (x : X) → AllByRecursion P xs → P x →
+pub push_keeps : {X : Type 0} (P : X → Type 0) (xs : List X) (x : X) → AllByRecursion P xs → P x →
     AllByRecursion P (xs ++ x ∷ [])
 push_keeps P [] x h p = (p, tt)
 push_keeps P (y ∷ xs) x h p = (h.0, push_keeps P xs x h.1 p)
 
-pop_keeps : {X : Type 0} (P : X → Type 0) (xs : List X) → AllByRecursion P xs → AllByRecursion P (drop 1 xs)
+pub pop_keeps : {X : Type 0} (P : X → Type 0) (xs : List X) → AllByRecursion P xs → AllByRecursion P (drop 1 xs)
 pop_keeps P [] h = tt
 pop_keeps P (x ∷ xs) h = h.1
 

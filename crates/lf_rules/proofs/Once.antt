@@ -5,7 +5,11 @@ use Rattle.lf_rules.specs.declared.event.Record.{Record}
 use Rattle.lf_rules.specs.declared.event.Event.{Event}
 use Rattle.lf_rules.specs.declared.event.Event.TheVariants.{Reply}
 use Rattle.lf_rules.specs.State.{State, Local, opening, seen_by}
-use Rattle.lf_rules.specs.Table.{OfBoth, is_at, carries, rules_of, clauses}
+use Rattle.lf_rules.specs.Table.{OfBoth, is_at, carries, rules_of}
+use Rattle.lf_rules.specs.OuterTable.{brings, outer_rules}
+use Rattle.lf_rules.specs.Step.{by_below, step_clauses}
+use Rattle.lf_rules.specs.declared.shape.Below.{Below}
+use Rattle.lf_rules.specs.declared.shape.Below.TheVariants.{LevelTwo, Outside}
 use Rattle.lf_rules.specs.Run.{first_failing, state_after, IsRunFrom}
 use Rattle.lf_rules.specs.History.{Act, Issues, Accepts, Replies, Nothing, act, outstanding_after, is_outstanding}
 use Rattle.lf_rules.specs.History.{IsOnceAt, IsOnceFrom}
@@ -30,14 +34,19 @@ is_at_some (Some b) bank e = refl
 
 once_at : (shape : Shape) (now : Local) (r : Record) (history : List Record) →
     ((t : ℕ) → is_some (now.busy t) ≡ is_outstanding shape r.log t history)
-    → first_failing OfBoth (clauses shape now r) ≡ None → IsOnceAt shape history r.log r.event
-once_at shape now r history right holds = go (carries shape now.memory now.slice r.event) r.event holds
+    → first_failing OfBoth (step_clauses shape now r) ≡ None → IsOnceAt shape history r.log r.event
+once_at shape now r history right holds =
+    go shape.below (carries shape now.memory now.slice r.event) (brings shape now.memory now.slice r.event) r.event
+    holds
   where
-    go : (c : Bool) (e : Event) → first_failing OfBoth (rules_of shape c now.busy now.slice r.log r.bank e) ≡ None →
-        IsOnceAt shape history r.log e
-    go c (Reply tag size bytes) h = sym (right tag) ∙ is_at_some (now.busy tag) r.bank
+    go : (k : Below) (c d : Bool) (e : Event) → first_failing OfBoth (by_below k
+        (rules_of shape c now.busy now.slice r.log r.bank e) (outer_rules shape d now.busy now.slice r.log r.bank e))
+        ≡ None → IsOnceAt shape history r.log e
+    go LevelTwo c d (Reply tag size bytes) h = sym (right tag) ∙ is_at_some (now.busy tag) r.bank
         (this_holds _ _ _ (others_hold _ _ _ h))
-    go c _ h = tt
+    go Outside c d (Reply tag size bytes) h = sym (right tag) ∙ is_at_some (now.busy tag) r.bank
+        (this_holds _ _ _ (others_hold _ _ _ h))
+    go k c d _ h = tt
 
 once_from : (shape : Shape) (rs history : List Record) (state : State) → TagsAreRight shape state history →
     IsRunFrom shape state rs → IsOnceFrom shape history rs

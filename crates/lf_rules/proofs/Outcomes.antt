@@ -6,7 +6,8 @@ use Rattle.lf_rules.specs.declared.event.Record.{Record}
 use Rattle.lf_rules.specs.declared.rule.Rule.{Rule}
 use Rattle.lf_rules.specs.declared.outcome.Outcome.TheVariants.{Passed, Broken, NoMemory}
 use Rattle.lf_rules.specs.State.{Local}
-use Rattle.lf_rules.specs.Table.{Side, clauses}
+use Rattle.lf_rules.specs.Table.{Side}
+use Rattle.lf_rules.specs.Step.{step_clauses}
 use Rattle.lf_rules.specs.Run.{first_failing, effect, IsRunOf, BreaksAt}
 use Rattle.lf_rules.specs.Outcomes.{first_local, OutcomesAreOne, RunsOrBreaks}
 use Rattle.lf_rules.proofs.Faults.{no_fault_in_run, fault_at}
@@ -47,7 +48,7 @@ run_or_break : (side : Side) (shape : Shape) (rs : List Record) (now : Local) �
     IsRunOf side shape now rs ⊎ Broken' side shape now rs
 run_or_break side shape [] now = inl tt
 run_or_break side shape (r ∷ rs) now =
-    (elim (first_is (first_failing side (clauses shape now r))) [
+    (elim (first_is (first_failing side (step_clauses shape now r))) [
       | inl holds ↦ (elim (run_or_break side shape rs (effect side shape now r)) [
         | inl run ↦ inl (holds, run)
         | inr b ↦ inr (suc b.0, b.1, (holds, b.2))

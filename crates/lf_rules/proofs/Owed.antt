@@ -6,7 +6,7 @@ use Rattle.std.proofs.lemmas.Bool.{and_parts, both_ways}
 use Rattle.std.specs.List.{list_any}
 use Rattle.lf_rules.specs.declared.shape.Shape.{Shape}
 use Rattle.lf_rules.specs.declared.event.Event.{Event}
-use Rattle.lf_rules.specs.declared.event.Event.TheVariants.{Issue, Reply, Hit, Primary, Merge, Fill1}
+use Rattle.lf_rules.specs.declared.event.Event.TheVariants.{Issue, Reply, Hit, Primary, Merge, Fill1, Masked}
 use Rattle.lf_rules.specs.Registers.{Held, targets_of, released}
 use Rattle.lf_rules.specs.State.{update, Request, Missed, Ready, Slice}
 use Rattle.lf_rules.specs.Table.{request_of, is_at, oldest, is_head, is_ready_for, without_ready, reply_of}
@@ -136,25 +136,35 @@ fill_count (h ∷ hs) block port t = go (h.block == block) (fill_count hs block 
     go true e = omega (arith, e)
     go false e = omega (arith, e)
 
-pub count_after : (shape : Shape) (right : Bool) (busy : ℕ → Option ℕ) (value : List ℕ) (slice : Slice) (log bank : ℕ)
-    (e : Event) → AllHold (rules_of shape right busy slice log bank e)
-    → (port t : ℕ) → CountMoves (act_of shape port t log e) (count_of slice port t)
-    (count_of (slice_after shape value (replies_at slice e) slice log e) port t)
-count_after shape right busy value slice log bank (Issue op tag size address bytes) holds port t =
-    let request = request_of shape tag op size address bytes.items in
-    subst (λ n. CountMoves (act_if (log == port && tag == t) (Issues request)) (count_of slice port t)
+-- ---- how the counts move, by what a record does to a slice
+
+pub issue_moves : (slice : Slice) (log : ℕ) (request : Request) (port t : ℕ)
+    → CountMoves (act_if (log == port && request.tag == t) (Issues request)) (count_of slice port t)
+    (count_of (record slice { queue = update slice.queue log (slice.queue log ++ request ∷ []) }) port t)
+issue_moves slice log request port t =
+    subst (λ n. CountMoves (act_if (log == port && request.tag == t) (Issues request)) (count_of slice port t)
     (n + held_count slice port t))
     (sym (queue_count (queued_as t) slice.queue log (slice.queue log ++ request ∷ []) port
     ∙ ap (λ n. cond (log == port) n (counted (queued_as t) (slice.queue port)))
     (counted-push (queued_as t) (slice.queue log) request)))
-    (issue_count (log == port) (tag == t) request _ (counted (queued_as t) (slice.queue log))
+    (issue_count (log == port) (request.tag == t) request _ (counted (queued_as t) (slice.queue log))
     (held_count slice port t) (λ e. ap (λ k. counted (queued_as t) (slice.queue k)) (eqb-true log port e)))
-count_after shape right busy value slice log bank (Reply tag size bytes) holds port t =
+
+pub reply_moves : (slice : Slice) (log tag port t : ℕ) → list_any (is_ready_for log tag) slice.ready ≡ true
+    → CountMoves (act_if (log == port && tag == t) Replies) (count_of slice port t)
+    (count_of (record slice { ready = without_ready slice.ready log tag }) port t)
+reply_moves slice log tag port t there =
     moves_more (act_if (log == port && tag == t) Replies) (counted (queued_as t) (slice.queue port)) _ _
     (moves_more (act_if (log == port && tag == t) Replies) (counted (waits_as port t) slice.waiting) _ _
-    (without_count slice.ready log tag port t holds.1.1.0))
-count_after shape right busy value slice log bank (Hit p tag) holds port t =
-    let head = (and_parts _ (is_head (slice.queue p) tag) holds.0).1 in
+    (without_count slice.ready log tag port t there))
+
+pub hit_moves : (slice : Slice) (p tag : ℕ) (value : List ℕ) (port t : ℕ) → is_head (slice.queue p) tag ≡ true
+    → CountMoves (act_if (p == port && tag == t) Accepts) (count_of slice port t)
+    (count_of (record slice {
+      queue = update slice.queue p (drop 1 (slice.queue p));
+      ready = slice.ready ++ record { port = p; tag = tag; value = value } ∷ [];
+    }) port t)
+hit_moves slice p tag value port t head =
     let reply : Ready = record { port = p; tag = tag; value = value } in
     quiet_count (p == port && tag == t) (count_of slice port t) _
     (ap₂ (λ n m. n + (counted (waits_as port t) slice.waiting + m))
@@ -162,32 +172,45 @@ count_after shape right busy value slice log bank (Hit p tag) holds port t =
     (counted-push (is_ready_for port t) slice.ready reply)
     ∙ accept_count (p == port) (tag == t) _ _ _ _ (λ e. ap (λ k. counted (queued_as t) (slice.queue k))
     (sym (eqb-true p port e)) ∙ head_count (slice.queue p) tag t head))
+
+pub miss_moves : (slice : Slice) (p tag register : ℕ) (value : List ℕ) (port t : ℕ) → is_head (slice.queue p) tag ≡ true
+    → CountMoves (act_if (p == port && tag == t) Accepts) (count_of slice port t)
+    (count_of (record slice {
+      queue = update slice.queue p (drop 1 (slice.queue p));
+      waiting = slice.waiting ++ miss slice p register value ∷ [];
+    }) port t)
+miss_moves slice p tag register value port t head =
+    quiet_count (p == port && tag == t) (count_of slice port t) _
+    (ap₂ (λ n m. n + (m + counted (is_ready_for port t) slice.ready))
+    (queue_count (queued_as t) slice.queue p (drop 1 (slice.queue p)) port)
+    (counted-push (waits_as port t) slice.waiting (miss slice p register value)
+    ∙ ap (λ k. counted (waits_as port t) slice.waiting + bit (p == port && k == t))
+    (head_tag (slice.queue p) tag head))
+    ∙ miss_count (p == port) (tag == t) _ _ _ _ (λ e. ap (λ k. counted (queued_as t) (slice.queue k))
+    (sym (eqb-true p port e)) ∙ head_count (slice.queue p) tag t head))
+
+pub count_after : (shape : Shape) (right : Bool) (busy : ℕ → Option ℕ) (value : List ℕ) (slice : Slice) (log bank : ℕ)
+    (e : Event) → AllHold (rules_of shape right busy slice log bank e)
+    → (port t : ℕ) → CountMoves (act_of shape port t log e) (count_of slice port t)
+    (count_of (slice_after shape value (replies_at slice e) slice log e) port t)
+count_after shape right busy value slice log bank (Issue op tag size address bytes) holds port t =
+    issue_moves slice log (request_of shape tag op size address bytes.items) port t
+count_after shape right busy value slice log bank (Reply tag size bytes) holds port t =
+    reply_moves slice log tag port t holds.1.1.0
+count_after shape right busy value slice log bank (Hit p tag) holds port t =
+    hit_moves slice p tag value port t (and_parts _ (is_head (slice.queue p) tag) holds.0).1
 count_after shape right busy value slice log bank (Primary p tag register) holds port t =
-    let head = (and_parts _ (is_head (slice.queue p) tag) holds.0).1 in
-    quiet_count (p == port && tag == t) (count_of slice port t) _
-    (ap₂ (λ n m. n + (m + counted (is_ready_for port t) slice.ready))
-    (queue_count (queued_as t) slice.queue p (drop 1 (slice.queue p)) port)
-    (counted-push (waits_as port t) slice.waiting (miss slice p register value)
-    ∙ ap (λ k. counted (waits_as port t) slice.waiting + bit (p == port && k == t))
-    (head_tag (slice.queue p) tag head))
-    ∙ miss_count (p == port) (tag == t) _ _ _ _ (λ e. ap (λ k. counted (queued_as t) (slice.queue k))
-    (sym (eqb-true p port e)) ∙ head_count (slice.queue p) tag t head))
+    miss_moves slice p tag register value port t (and_parts _ (is_head (slice.queue p) tag) holds.0).1
 count_after shape right busy value slice log bank (Merge p tag register) holds port t =
-    let head = (and_parts _ (is_head (slice.queue p) tag) holds.0).1 in
-    quiet_count (p == port && tag == t) (count_of slice port t) _
-    (ap₂ (λ n m. n + (m + counted (is_ready_for port t) slice.ready))
-    (queue_count (queued_as t) slice.queue p (drop 1 (slice.queue p)) port)
-    (counted-push (waits_as port t) slice.waiting (miss slice p register value)
-    ∙ ap (λ k. counted (waits_as port t) slice.waiting + bit (p == port && k == t))
-    (head_tag (slice.queue p) tag head))
-    ∙ miss_count (p == port) (tag == t) _ _ _ _ (λ e. ap (λ k. counted (queued_as t) (slice.queue k))
-    (sym (eqb-true p port e)) ∙ head_count (slice.queue p) tag t head))
+    miss_moves slice p tag register value port t (and_parts _ (is_head (slice.queue p) tag) holds.0).1
 count_after shape right busy value slice log bank (Fill1 block bytes) holds port t =
     omega (
       arith,
       counted-append (is_ready_for port t) slice.ready (map reply_of (targets_of slice.waiting block)),
       fill_count slice.waiting block port t,
     )
+count_after shape right busy value slice log bank (Masked op tag block mask bytes) holds port t =
+    absurd (both_ways false refl holds.0)
 count_after shape right busy value slice log bank _ holds port t = refl
 
 -- ---- how the queue and the missed or ready requests of a port's tag move
@@ -204,7 +227,7 @@ HeldMoves Accepts old new = new ≡ old + 1
 HeldMoves Replies old new = Unit {0}
 HeldMoves Nothing old new = new ≡ old
 
-held_moves : (a : Act) (q p h k : ℕ) → CountMoves a (q + h) (p + k) → QueueMoves a q p → HeldMoves a h k
+pub held_moves : (a : Act) (q p h k : ℕ) → CountMoves a (q + h) (p + k) → QueueMoves a q p → HeldMoves a h k
 held_moves (Issues request) q p h k all part = omega (arith, all, part)
 held_moves Accepts q p h k all part = omega (arith, all, part)
 held_moves Replies q p h k all part = tt
@@ -216,7 +239,7 @@ issue_queue true true request n m same = let e = same refl in omega (arith, e)
 issue_queue true false request n m same = let e = same refl in omega (arith, e)
 issue_queue false b request n m same = refl
 
-reply_queue : (k : Bool) (n : ℕ) → QueueMoves (act_if k Replies) n n
+pub reply_queue : (k : Bool) (n : ℕ) → QueueMoves (act_if k Replies) n n
 reply_queue true n = tt
 reply_queue false n = refl
 
@@ -225,7 +248,7 @@ accept_queue true true n m head = let e = head refl in omega (arith, e)
 accept_queue true false n m head = let e = head refl in omega (arith, e)
 accept_queue false b n m head = refl
 
-popped_queue : (slice : Slice) (p tag port t : ℕ) → is_head (slice.queue p) tag ≡ true
+pub popped_queue : (slice : Slice) (p tag port t : ℕ) → is_head (slice.queue p) tag ≡ true
     → QueueMoves (act_if (p == port && tag == t) Accepts) (counted (queued_as t) (slice.queue port))
     (counted (queued_as t) (update slice.queue p (drop 1 (slice.queue p)) port))
 popped_queue slice p tag port t head =
@@ -234,19 +257,25 @@ popped_queue slice p tag port t head =
     (accept_queue (p == port) (tag == t) _ _ (λ e. ap (λ k. counted (queued_as t) (slice.queue k))
     (sym (eqb-true p port e)) ∙ head_count (slice.queue p) tag t head))
 
+pub pushed_queue : (slice : Slice) (log : ℕ) (request : Request) (port t : ℕ)
+    → QueueMoves (act_if (log == port && request.tag == t) (Issues request)) (counted (queued_as t) (slice.queue port))
+    (counted (queued_as t) (update slice.queue log (slice.queue log ++ request ∷ []) port))
+pushed_queue slice log request port t =
+    subst (QueueMoves (act_if (log == port && request.tag == t) (Issues request))
+    (counted (queued_as t) (slice.queue port)))
+    (sym (queue_count (queued_as t) slice.queue log (slice.queue log ++ request ∷ []) port
+    ∙ ap (λ n. cond (log == port) n (counted (queued_as t) (slice.queue port)))
+    (counted-push (queued_as t) (slice.queue log) request)))
+    (issue_queue (log == port) (request.tag == t) request _ (counted (queued_as t) (slice.queue log))
+    (λ e. ap (λ k. counted (queued_as t) (slice.queue k)) (eqb-true log port e)))
+
 queue_after : (shape : Shape) (right : Bool) (busy : ℕ → Option ℕ) (value : List ℕ) (replies : List Ready)
     (slice : Slice) (log bank : ℕ) (e : Event)
     → AllHold (rules_of shape right busy slice log bank e)
     → (port t : ℕ) → QueueMoves (act_of shape port t log e) (counted (queued_as t) (slice.queue port))
     (counted (queued_as t) ((slice_after shape value replies slice log e).queue port))
 queue_after shape right busy value replies slice log bank (Issue op tag size address bytes) holds port t =
-    let request = request_of shape tag op size address bytes.items in
-    subst (QueueMoves (act_if (log == port && tag == t) (Issues request)) (counted (queued_as t) (slice.queue port)))
-    (sym (queue_count (queued_as t) slice.queue log (slice.queue log ++ request ∷ []) port
-    ∙ ap (λ n. cond (log == port) n (counted (queued_as t) (slice.queue port)))
-    (counted-push (queued_as t) (slice.queue log) request)))
-    (issue_queue (log == port) (tag == t) request _ (counted (queued_as t) (slice.queue log))
-    (λ e. ap (λ k. counted (queued_as t) (slice.queue k)) (eqb-true log port e)))
+    pushed_queue slice log (request_of shape tag op size address bytes.items) port t
 queue_after shape right busy value replies slice log bank (Reply tag size bytes) holds port t =
     reply_queue (log == port && tag == t) _
 queue_after shape right busy value replies slice log bank (Hit p tag) holds port t =
@@ -255,6 +284,8 @@ queue_after shape right busy value replies slice log bank (Primary p tag registe
     popped_queue slice p tag port t (and_parts _ (is_head (slice.queue p) tag) holds.0).1
 queue_after shape right busy value replies slice log bank (Merge p tag register) holds port t =
     popped_queue slice p tag port t (and_parts _ (is_head (slice.queue p) tag) holds.0).1
+queue_after shape right busy value replies slice log bank (Masked op tag block mask bytes) holds port t =
+    absurd (both_ways false refl holds.0)
 queue_after shape right busy value replies slice log bank _ holds port t = refl
 
 pub held_after : (shape : Shape) (right : Bool) (busy : ℕ → Option ℕ) (value : List ℕ) (slice : Slice) (log bank : ℕ)

@@ -1,21 +1,19 @@
 -- A run of the whole is a run of each bank and of each port.
-use Rattle.std.proofs.Common.{◌≡◌, ℕ, ◌<◌, ◌≤◌, Bool, false, ◌==◌, List, [], ◌∷◌, Option, None, inl, inr, refl, sym}
-use Rattle.std.proofs.Common.{ap, ◌∙◌, subst, eq-eqb, eqb-true, arith}
+use Rattle.std.proofs.Common.{◌≡◌, ℕ, ◌<◌, false, ◌==◌, List, [], ◌∷◌, Option, None, inl, inr, refl, sym}
+use Rattle.std.proofs.Common.{ap, ◌∙◌, subst, eq-eqb, eqb-true}
 use Rattle.std.proofs.lemmas.Bool.{eqb-false, cond-true, cond-false, cases_Bool, cases_lt}
 use Rattle.std.specs.List.{AllByRecursion}
 use Rattle.lf_rules.specs.declared.shape.Shape.{Shape}
 use Rattle.lf_rules.specs.declared.event.Record.{Record}
-use Rattle.lf_rules.specs.declared.event.Event.{Event}
-use Rattle.lf_rules.specs.declared.event.Event.TheVariants.{Issue, Reply, Fence}
 use Rattle.lf_rules.specs.State.{update, Slice, State, Local, opening, seen_by}
-use Rattle.lf_rules.specs.Table.{OfPort, OfBank, carries, rules_of, accepts, busy_after, clauses, bank_effect}
-use Rattle.lf_rules.specs.Table.{port_effect}
+use Rattle.lf_rules.specs.Table.{OfPort, OfBank, busy_after, port_effect}
+use Rattle.lf_rules.specs.Step.{step_clauses, step_effect}
 use Rattle.lf_rules.specs.Run.{first_failing, state_after, IsRunOf, IsRunFrom, of_log, of_bank, RunsByParts}
-use Rattle.lf_rules.specs.Fits.{Fits, FitsBank, FitsLog}
-use Rattle.lf_rules.proofs.FitFacts.{names_home}
+use Rattle.lf_rules.specs.Fits.{Fits}
 use Rattle.lf_rules.proofs.Clauses.{part_holds, both_hold}
-use Rattle.lf_rules.proofs.Locality.{SameBank, SameBank-sym, IsHome, bank_clauses_same, port_clauses_same}
-use Rattle.lf_rules.proofs.Locality.{accepts_home, accepted_apart, bank_effect_same, home_after}
+use Rattle.lf_rules.proofs.Locality.{SameBank, SameBank-sym, IsHome}
+use Rattle.lf_rules.proofs.Steps.{step_bank_same, step_port_same, step_effect_same, step_apart, step_home}
+use Rattle.lf_rules.proofs.Steps.{step_of_bank, step_of_no_bank}
 
 -- ---- a run depends on what its side sees
 
@@ -31,21 +29,21 @@ bank_run_same shape bank (r ∷ rs) a b fits home same run =
     let here : r.bank ≡ bank = fits.0.1 in
     let home_here : IsHome shape r.bank a.slice = subst (λ k. IsHome shape k a.slice) (sym here) home in
     let same_here : SameBank shape r.bank a b = subst (λ k. SameBank shape k a b) (sym here) same in
-    let next : SameBank shape bank (bank_effect shape a r) (bank_effect shape b r) =
-    subst (λ k. SameBank shape k (bank_effect shape a r) (bank_effect shape b r)) here
-    (bank_effect_same shape a b r home_here same_here) in
-    let home_next : IsHome shape bank (bank_effect shape a r).slice =
-    subst (λ k. IsHome shape k (bank_effect shape a r).slice) here
-    (home_after shape r.bank _ _ a.slice r.log r.event (names_home shape r fits.0.0) home_here) in (
-      sym (bank_clauses_same shape a b r fits.0.0 same_here) ∙ run.0,
-      bank_run_same shape bank rs (bank_effect shape a r) (bank_effect shape b r) fits.1 home_next next run.1,
+    let next : SameBank shape bank (step_effect shape a r) (step_effect shape b r) =
+    subst (λ k. SameBank shape k (step_effect shape a r) (step_effect shape b r)) here
+    (step_effect_same shape a b r fits.0.0 home_here same_here) in
+    let home_next : IsHome shape bank (step_effect shape a r).slice =
+    subst (λ k. IsHome shape k (step_effect shape a r).slice) here
+    (step_home shape a r fits.0.0 home_here) in (
+      sym (step_bank_same shape a b r fits.0.0 same_here) ∙ run.0,
+      bank_run_same shape bank rs (step_effect shape a r) (step_effect shape b r) fits.1 home_next next run.1,
     )
 
 port_run_same : (shape : Shape) (rs : List Record) (a b : Local) → a.busy ≡ b.busy → IsRunOf OfPort shape a rs →
     IsRunOf OfPort shape b rs
 port_run_same shape [] a b same run = tt
 port_run_same shape (r ∷ rs) a b same run = (
-  sym (port_clauses_same shape a b r same) ∙ run.0,
+  sym (step_port_same shape a b r same) ∙ run.0,
   port_run_same shape rs (port_effect a r) (port_effect b r)
       (ap (λ (busy : ℕ → Option ℕ). busy_after busy r.bank r.event) same) run.1,
 )
@@ -63,15 +61,15 @@ update_other f k v n apart = cond-false (k == n) v (f n) apart
 
 bank_stays : (shape : Shape) (state : State) (r : Record) →
     SameBank shape r.bank (seen_by 0 r.bank (state_after shape state r))
-    (bank_effect shape (seen_by 0 r.bank state) r)
+    (step_effect shape (seen_by 0 r.bank state) r)
 bank_stays shape state r = record { slice = update_here state.slice r.bank _; memory = λ x e. refl }
 
-bank_apart : (shape : Shape) (state : State) (r : Record) → AreHome shape state → (bank : ℕ) → (r.bank == bank) ≡ false
+bank_apart : (shape : Shape) (state : State) (r : Record) → Fits shape r →
+    AreHome shape state → (bank : ℕ) → (r.bank == bank) ≡ false
     → SameBank shape bank (seen_by 0 bank (state_after shape state r)) (seen_by 0 bank state)
-bank_apart shape state r home bank apart = record {
+bank_apart shape state r fits home bank apart = record {
   slice = update_other state.slice r.bank _ bank apart;
-  memory = λ x e. accepted_apart shape r.bank state.memory (accepts (state.slice r.bank) r.event)
-      (accepts_home shape r.bank (state.slice r.bank) r.event (home r.bank)) x
+  memory = λ x e. step_apart shape (seen_by r.log r.bank state) r fits (home r.bank) x
       (λ here. eqb-false r.bank bank apart (sym here ∙ e));
 }
 
@@ -87,13 +85,13 @@ pub home_step : (shape : Shape) (state : State) (r : Record) → Fits shape r �
     AreHome shape (state_after shape state r)
 home_step shape state r fits home bank =
     let Goal : Slice → Type 0 = λ s. IsHome shape bank s in
-    let now : (r.bank ≡ bank) → IsHome shape bank (bank_effect shape (seen_by r.log r.bank state) r).slice =
-    λ here. subst (λ k. IsHome shape k (bank_effect shape (seen_by r.log r.bank state) r).slice) here
-    (home_after shape r.bank _ _ (state.slice r.bank) r.log r.event (names_home shape r fits) (home r.bank)) in
+    let now : (r.bank ≡ bank) → IsHome shape bank (step_effect shape (seen_by r.log r.bank state) r).slice =
+    λ here. subst (λ k. IsHome shape k (step_effect shape (seen_by r.log r.bank state) r).slice) here
+    (step_home shape (seen_by r.log r.bank state) r fits (home r.bank)) in
     (elim (cases_Bool (r.bank == bank)) [
       | inl e ↦ subst Goal (sym (subst (λ k. update state.slice r.bank
-          (bank_effect shape (seen_by r.log r.bank state) r).slice k
-          ≡ (bank_effect shape (seen_by r.log r.bank state) r).slice)
+          (step_effect shape (seen_by r.log r.bank state) r).slice k
+          ≡ (step_effect shape (seen_by r.log r.bank state) r).slice)
           (eqb-true r.bank bank e) (update_here state.slice r.bank _))) (now (eqb-true r.bank bank e))
       | inr e ↦ subst Goal (sym (update_other state.slice r.bank _ bank e)) (home bank)
     ])
@@ -122,11 +120,11 @@ bank_of_whole shape (r ∷ rs) state fits home run bank =
     let rest : (k : ℕ) → IsRunOf OfBank shape (seen_by 0 k next) (of_bank k rs) =
     bank_of_whole shape rs next fits.1 home_next run.1 in
     let head : IsRunOf OfBank shape (seen_by 0 r.bank state) (r ∷ of_bank r.bank rs) = (
-      bank_clauses_same shape (seen_by 0 r.bank state) (seen_by r.log r.bank state) r fits.0
+      step_bank_same shape (seen_by 0 r.bank state) (seen_by r.log r.bank state) r fits.0
           (record { slice = refl; memory = λ x e. refl })
-          ∙ part_holds OfBank (clauses shape (seen_by r.log r.bank state) r) run.0,
+          ∙ part_holds OfBank (step_clauses shape (seen_by r.log r.bank state) r) run.0,
       bank_run_same shape r.bank (of_bank r.bank rs) (seen_by 0 r.bank next)
-          (bank_effect shape (seen_by 0 r.bank state) r)
+          (step_effect shape (seen_by 0 r.bank state) r)
           (fit_bank shape r.bank rs fits.1) (home_next r.bank) (bank_stays shape state r) (rest r.bank),
     ) in
     let Goal : List Record → Type 0 = IsRunOf OfBank shape (seen_by 0 bank state) in
@@ -135,7 +133,7 @@ bank_of_whole shape (r ∷ rs) state fits home run bank =
           (subst (λ k. IsRunOf OfBank shape (seen_by 0 k state) (r ∷ of_bank k rs)) (eqb-true r.bank bank e) head)
       | inr e ↦ subst Goal (sym (cond-false (r.bank == bank) (r ∷ of_bank bank rs) (of_bank bank rs) e))
           (bank_run_same shape bank (of_bank bank rs) (seen_by 0 bank next) (seen_by 0 bank state)
-          (fit_bank shape bank rs fits.1) (home_next bank) (bank_apart shape state r home bank e) (rest bank))
+          (fit_bank shape bank rs fits.1) (home_next bank) (bank_apart shape state r fits.0 home bank e) (rest bank))
     ])
 
 port_of_whole : (shape : Shape) (rs : List Record) (state : State) → IsRunFrom shape state rs → (log : ℕ) →
@@ -145,8 +143,8 @@ port_of_whole shape (r ∷ rs) state run log =
     let next : State = state_after shape state r in
     let rest : (k : ℕ) → IsRunOf OfPort shape (seen_by k 0 next) (of_log k rs) = port_of_whole shape rs next run.1 in
     let head : IsRunOf OfPort shape (seen_by r.log 0 state) (r ∷ of_log r.log rs) = (
-      port_clauses_same shape (seen_by r.log 0 state) (seen_by r.log r.bank state) r refl
-          ∙ part_holds OfPort (clauses shape (seen_by r.log r.bank state) r) run.0,
+      step_port_same shape (seen_by r.log 0 state) (seen_by r.log r.bank state) r refl
+          ∙ part_holds OfPort (step_clauses shape (seen_by r.log r.bank state) r) run.0,
       port_run_same shape (of_log r.log rs) (seen_by r.log 0 next) (port_effect (seen_by r.log 0 state) r)
           (port_stays shape state r) (rest r.log),
     ) in
@@ -160,29 +158,6 @@ port_of_whole shape (r ∷ rs) state run log =
     ])
 
 -- ---- from the parts to the whole
-
--- an event of a bank's log has no clause of a port
-bank_event : (shape : Shape) (now : Local) (r : Record) → Fits shape r → shape.ports ≤ r.log →
-    first_failing OfPort (clauses shape now r) ≡ None
-bank_event shape now r fits at = go (carries shape now.memory now.slice r.event) r.event fits.log
-  where
-    go : (right : Bool) (e : Event) → FitsLog shape.ports r.bank r.log e →
-        first_failing OfPort (rules_of shape right now.busy now.slice r.log r.bank e) ≡ None
-    go right (Issue op tag size address bytes) fit = absurd (omega (arith, fit))
-    go right (Reply tag size bytes) fit = absurd (omega (arith, fit))
-    go right Fence fit = absurd (omega (arith, fit))
-    go right _ fit = refl
-
--- a record that names no bank has no clause of one
-no_bank_event : (shape : Shape) (now : Local) (r : Record) → Fits shape r → shape.banks ≤ r.bank →
-    first_failing OfBank (clauses shape now r) ≡ None
-no_bank_event shape now r fits at = go (carries shape now.memory now.slice r.event) r.event fits.bank
-  where
-    go : (right : Bool) (e : Event) → FitsBank shape.banks r.bank r.number e →
-        first_failing OfBank (rules_of shape right now.busy now.slice r.log r.bank e) ≡ None
-    go right Fence fit = refl
-    go right (Issue op tag size address bytes) fit = absurd (omega (arith, fit))
-    go right _ fit = absurd (omega (arith, fit))
 
 whole_of_parts : (shape : Shape) (rs : List Record) (state : State) → AllByRecursion (Fits shape) rs →
     AreHome shape state
@@ -202,28 +177,28 @@ whole_of_parts shape (r ∷ rs) state fits home banks ports =
     λ lt. subst (IsRunOf OfPort shape (seen_by r.log 0 state))
     (cond-true (r.log == r.log) (r ∷ of_log r.log rs) (of_log r.log rs) (eq-eqb r.log r.log refl))
     (ports r.log lt) in
-    let of_port : first_failing OfPort (clauses shape now r) ≡ None =
+    let of_port : first_failing OfPort (step_clauses shape now r) ≡ None =
     (elim (cases_lt r.log shape.ports) [
-      | inl lt ↦ port_clauses_same shape now (seen_by r.log 0 state) r refl ∙ (port_head lt).0
-      | inr ge ↦ bank_event shape now r fits.0 ge
+      | inl lt ↦ step_port_same shape now (seen_by r.log 0 state) r refl ∙ (port_head lt).0
+      | inr ge ↦ step_of_bank shape now r fits.0 ge
     ]) in
-    let of_bank_now : first_failing OfBank (clauses shape now r) ≡ None =
+    let of_bank_now : first_failing OfBank (step_clauses shape now r) ≡ None =
     (elim (cases_lt r.bank shape.banks) [
-      | inl lt ↦ bank_clauses_same shape now (seen_by 0 r.bank state) r fits.0
+      | inl lt ↦ step_bank_same shape now (seen_by 0 r.bank state) r fits.0
           (record { slice = refl; memory = λ x e. refl }) ∙ (bank_head lt).0
-      | inr ge ↦ no_bank_event shape now r fits.0 ge
+      | inr ge ↦ step_of_no_bank shape now r fits.0 ge
     ]) in
     let banks_next : (bank : ℕ) → bank < shape.banks → IsRunOf OfBank shape (seen_by 0 bank next) (of_bank bank rs) =
     λ bank inside.
     (elim (cases_Bool (r.bank == bank)) [
       | inl e ↦ subst (λ k. IsRunOf OfBank shape (seen_by 0 k next) (of_bank k rs)) (eqb-true r.bank bank e)
-          (bank_run_same shape r.bank (of_bank r.bank rs) (bank_effect shape (seen_by 0 r.bank state) r)
+          (bank_run_same shape r.bank (of_bank r.bank rs) (step_effect shape (seen_by 0 r.bank state) r)
           (seen_by 0 r.bank next) (fit_bank shape r.bank rs fits.1)
-          (home_after shape r.bank _ _ (state.slice r.bank) r.log r.event (names_home shape r fits.0) (home r.bank))
+          (step_home shape (seen_by 0 r.bank state) r fits.0 (home r.bank))
           (SameBank-sym (bank_stays shape state r)) (bank_head
           (subst (λ k. k < shape.banks) (sym (eqb-true r.bank bank e)) inside)).1)
       | inr e ↦ bank_run_same shape bank (of_bank bank rs) (seen_by 0 bank state) (seen_by 0 bank next)
-          (fit_bank shape bank rs fits.1) (home bank) (SameBank-sym (bank_apart shape state r home bank e))
+          (fit_bank shape bank rs fits.1) (home bank) (SameBank-sym (bank_apart shape state r fits.0 home bank e))
           (subst (IsRunOf OfBank shape (seen_by 0 bank state))
           (cond-false (r.bank == bank) (r ∷ of_bank bank rs) (of_bank bank rs) e) (banks bank inside))
     ]) in
@@ -238,7 +213,7 @@ whole_of_parts shape (r ∷ rs) state fits home banks ports =
           (subst (IsRunOf OfPort shape (seen_by log 0 state))
           (cond-false (r.log == log) (r ∷ of_log log rs) (of_log log rs) e) (ports log lt))
     ]) in (
-      both_hold (clauses shape now r) of_port of_bank_now,
+      both_hold (step_clauses shape now r) of_port of_bank_now,
       whole_of_parts shape rs next fits.1 home_next banks_next
           ports_next,
     )

@@ -8,10 +8,16 @@ use Rattle.lf_rules.specs.declared.shape.OrgShape.TheVariants.{Implicit, Explici
 use Rattle.lf_rules.specs.declared.event.Record.{Record}
 use Rattle.lf_rules.specs.declared.event.Event.{Event}
 use Rattle.lf_rules.specs.declared.event.Event.TheVariants.{Primary, Merge, Fill1, SecondPrimary, SecondMerge, Fill2}
+use Rattle.lf_rules.specs.declared.event.Event.TheVariants.{Grant}
+use Rattle.lf_rules.specs.declared.shape.Below.{Below}
+use Rattle.lf_rules.specs.declared.shape.Below.TheVariants.{LevelTwo, Outside}
 use Rattle.lf_rules.specs.Registers.{Held, shares, holds, holds_in, released, right_for_merge}
-use Rattle.lf_rules.specs.State.{update, Ready, Slice, State, opening}
-use Rattle.lf_rules.specs.Table.{OfBoth, rules_of, oldest, destination, asked_register, slice_after}
-use Rattle.lf_rules.specs.Address.{second_of}
+use Rattle.lf_rules.specs.State.{update, Ready, Slice, State, Local, opening, seen_by}
+use Rattle.lf_rules.specs.Table.{OfBoth, rules_of, oldest, destination, asked_register, slice_after, clauses}
+use Rattle.lf_rules.specs.Table.{bank_effect}
+use Rattle.lf_rules.specs.OuterTable.{outer_rules, outer_slice, outer_clauses, outer_effect}
+use Rattle.lf_rules.specs.Step.{by_below, step_clauses, step_effect}
+use Rattle.lf_rules.specs.Address.{FlatMemory, second_of}
 use Rattle.lf_rules.specs.Run.{first_failing, state_after, IsRunFrom}
 use Rattle.lf_rules.specs.Sharing.{HoldsOnce, KeepsApart, state_after_all}
 use Rattle.lf_rules.specs.Laws.{RunsShare}
@@ -141,6 +147,47 @@ apart_after shape right busy value replies slice log bank (Fill2 block bytes) h 
 apart_after shape right busy value replies slice log bank _ h apart =
     record { level1 = apart.level1; level2 = apart.level2 }
 
+outer_apart_after : (shape : Shape) (right : Bool) (busy : ℕ → Option ℕ) (m : FlatMemory) (slice : Slice)
+    (log bank : ℕ) (e : Event)
+    → first_failing OfBoth (outer_rules shape right busy slice log bank e) ≡ None → KeepsApart shape slice →
+    KeepsApart shape (outer_slice shape m slice log e)
+outer_apart_after shape right busy m slice log bank (Primary port tag register) h apart =
+    let clauses = all_hold (outer_rules shape right busy slice log bank (Primary port tag register)) h in
+    record {
+      level1 = λ closed. push_apart slice.waiting _ (inl (not-true _ clauses.1.1.0)) (apart.level1 closed);
+      level2 = apart.level2;
+    }
+outer_apart_after shape right busy m slice log bank (Merge port tag register) h apart =
+    let clauses = all_hold (outer_rules shape right busy slice log bank (Merge port tag register)) h in
+    record {
+      level1 =
+          λ closed. push_apart slice.waiting _
+          (inr (merge_apart shape.level1.organisation slice.waiting (oldest (slice.queue port)).block
+          (destination shape port tag) register closed clauses.1.1.1.0)) (apart.level1 closed);
+      level2 = apart.level2;
+    }
+outer_apart_after shape right busy m slice log bank (Fill1 block bytes) h apart =
+    record {
+      level1 = λ closed. release_apart slice.waiting block (apart.level1 closed);
+      level2 = apart.level2;
+    }
+outer_apart_after shape right busy m slice log bank (Grant block) h apart =
+    record {
+      level1 = λ closed. release_apart slice.waiting block (apart.level1 closed);
+      level2 = apart.level2;
+    }
+outer_apart_after shape right busy m slice log bank _ h apart =
+    record { level1 = apart.level1; level2 = apart.level2 }
+
+apart_step : (shape : Shape) (now : Local) (r : Record) → first_failing OfBoth (step_clauses shape now r) ≡ None →
+    KeepsApart shape now.slice → KeepsApart shape (step_effect shape now r).slice
+apart_step shape now r h apart = go shape.below h
+  where
+    go : (k : Below) → first_failing OfBoth (by_below k (clauses shape now r) (outer_clauses shape now r)) ≡ None →
+        KeepsApart shape (by_below k (bank_effect shape now r).slice (outer_effect shape now r).slice)
+    go LevelTwo h = apart_after shape _ now.busy _ _ now.slice r.log r.bank r.event h apart
+    go Outside h = outer_apart_after shape _ now.busy now.memory now.slice r.log r.bank r.event h apart
+
 AllApart : Shape → State → Type 0
 AllApart shape state = (bank : ℕ) → KeepsApart shape (state.slice bank)
 
@@ -157,7 +204,7 @@ shared_from shape [] state apart run (suc n) bank = apart bank
 shared_from shape (r ∷ rs) state apart run (suc n) bank =
     shared_from shape rs (state_after shape state r)
     (update_keeps (KeepsApart shape) state.slice r.bank _
-    (apart_after shape _ (state.busy r.log) _ _ (state.slice r.bank) r.log r.bank r.event run.0 (apart r.bank)) apart)
+    (apart_step shape (seen_by r.log r.bank state) r run.0 (apart r.bank)) apart)
     run.1 n bank
 
 pub runs_share : RunsShare

@@ -101,5 +101,5 @@ copy_opening memory =
     let copies : Copies = record { one = memory; two = memory; below = memory } in
     record { copies = copies; busy = λ _. idle; slice = λ _. empty_slice }
 
-abbrev pub IsCopyRun : Shape → FlatMemory → List Record → Type 0
-IsCopyRun shape memory rs = IsCopyRunFrom shape (copy_opening memory) rs
+abbrev pub IsCopyRunOfTwo : Shape → FlatMemory → List Record → Type 0
+IsCopyRunOfTwo shape memory rs = IsCopyRunFrom shape (copy_opening memory) rs

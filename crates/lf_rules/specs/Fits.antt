@@ -1,5 +1,6 @@
 -- Which records a trace of these ports, banks, block size and factor may have.
-use Rattle.std.specs.Prelude.{◌≡◌, ℕ, ◌+◌, ◌*◌, List, [], ◌∷◌, ◌/◌, ◌%◌, ◌^◌, ◌<◌, Bool, true, false, ◌||◌, ◌==◌}
+use Rattle.std.specs.Prelude.{◌≡◌, ℕ, ◌+◌, ◌*◌, List, [], ◌∷◌, ◌/◌, ◌%◌, ◌^◌, ◌<◌, ◌≤◌, Bool, true, false, ◌||◌}
+use Rattle.std.specs.Prelude.{◌==◌}
 use Rattle.std.specs.Prelude.{length, slice_index}
 use Rattle.std.specs.Int.RustNames.{count_ones}
 use Rattle.arrayvec.specs.ArrayVec.{ArrayVec}
@@ -9,7 +10,7 @@ use Rattle.lf_rules.specs.declared.event.Event.{Event}
 use Rattle.lf_rules.specs.declared.event.Event.TheVariants.{Issue, Reply, Fence, Hit, Primary, Merge, Stall, Fill1}
 use Rattle.lf_rules.specs.declared.event.Event.TheVariants.{Evict1}
 use Rattle.lf_rules.specs.declared.event.Event.TheVariants.{SecondHit, SecondPrimary, SecondMerge, SecondStall, Fill2}
-use Rattle.lf_rules.specs.declared.event.Event.TheVariants.{Evict2}
+use Rattle.lf_rules.specs.declared.event.Event.TheVariants.{Evict2, Masked, Grant, Clean1, Yield1, Outside}
 use Rattle.lf_rules.specs.declared.event.Record.{Record}
 use Rattle.lf_rules.specs.declared.shape.Shape.{Shape}
 use Rattle.lf_rules.specs.Address.{Masks, mask_at, no_bank}
@@ -51,9 +52,10 @@ pub record FitsIssue (banks block factor bank : ℕ) (op : Op) (tag size address
   pub of_bank : is_of_bank banks bank (address / block / factor) ≡ true
   pub carried : IsData (issue_len op size) bytes
 
-pub record FitsReply (tag size : ℕ) (bytes : Bytes) : Type 0 where
+-- at most a block; that of an issue has the issue's size, or 0
+pub record FitsReply (block tag size : ℕ) (bytes : Bytes) : Type 0 where
   pub tag_fits : tag < 256
-  pub size_is : ((size == 0) || is_size size) ≡ true
+  pub size_fits : size ≤ block
   pub carried : IsData size bytes
 
 -- an event that names a request of a port
@@ -75,6 +77,19 @@ pub record FitsEvict (banks size factor bank block mask : ℕ) (bytes : Bytes) :
   pub mask_fits : mask < 2 ^ size
   pub carried : IsData (count_ones mask) bytes
 
+-- a request for some bytes of a block
+pub record FitsMasked (banks size factor bank : ℕ) (op : Op) (tag block mask : ℕ) (bytes : Bytes) : Type 0 where
+  pub tag_fits : tag < 256
+  pub of_bank : FitsBlock banks factor bank block
+  pub some_byte : 0 < mask
+  pub mask_fits : mask < 2 ^ size
+  pub carried : IsData (issue_len op (count_ones mask)) bytes
+
+-- a write of the outside
+pub record FitsOutside (banks size factor bank block mask : ℕ) (bytes : Bytes) : Type 0 where
+  pub some_byte : 0 < mask
+  pub written : FitsEvict banks size factor bank block mask bytes
+
 -- how many bytes are under the masks
 abbrev pub masks_len : List Mask → ℕ
 masks_len [] = 0
@@ -90,7 +105,7 @@ pub record FitsWideEvict (banks size factor bank second : ℕ) (masks : Masks) (
 abbrev pub FitsEvent : ℕ → ℕ → ℕ → ℕ → Event → Type 0
 FitsEvent banks size factor bank (Issue op tag len address bytes) =
     FitsIssue banks size factor bank op tag len address bytes
-FitsEvent banks size factor bank (Reply tag len bytes) = FitsReply tag len bytes
+FitsEvent banks size factor bank (Reply tag len bytes) = FitsReply size tag len bytes
 FitsEvent banks size factor bank (Hit port tag) = FitsRequest port tag
 FitsEvent banks size factor bank (Primary port tag register) = FitsRequest port tag × (register < 0x1_0000)
 FitsEvent banks size factor bank (Merge port tag register) = FitsRequest port tag × (register < 0x1_0000)
@@ -107,6 +122,12 @@ FitsEvent banks size factor bank (Evict2 second masks bytes) = FitsWideEvict ban
 FitsEvent banks size factor bank (SecondMerge block register) = FitsBlock banks factor bank block ×
     (register < 0x1_0000)
 FitsEvent banks size factor bank Fence = Unit {0}
+FitsEvent banks size factor bank (Masked op tag block mask bytes) =
+    FitsMasked banks size factor bank op tag block mask.0 bytes
+FitsEvent banks size factor bank (Grant block) = FitsBlock banks factor bank block
+FitsEvent banks size factor bank (Clean1 block mask bytes) = FitsEvict banks size factor bank block mask.0 bytes
+FitsEvent banks size factor bank (Yield1 block) = FitsBlock banks factor bank block
+FitsEvent banks size factor bank (Outside block mask bytes) = FitsOutside banks size factor bank block mask.0 bytes
 
 abbrev pub is_of_level_two : Event → Bool
 is_of_level_two (SecondHit block) = true
@@ -117,11 +138,12 @@ is_of_level_two (Fill2 second bytes) = true
 is_of_level_two (Evict2 second masks bytes) = true
 is_of_level_two _ = false
 
--- issues, replies and fences stand in the log of a port, all else in that of the bank
+-- issues, masked requests, replies and fences stand in the log of a port, all else in that of the bank
 abbrev pub FitsLog : ℕ → ℕ → ℕ → Event → Type 0
 FitsLog ports bank log (Issue op tag size address bytes) = log < ports
 FitsLog ports bank log (Reply tag size bytes) = log < ports
 FitsLog ports bank log Fence = log < ports
+FitsLog ports bank log (Masked op tag block mask bytes) = log < ports
 FitsLog ports bank log event = log ≡ ports + bank
 
 -- a fence names no bank and has no number

@@ -5,10 +5,11 @@ use Rattle.std.specs.Prelude.{if◌then◌else◌}
 use Rattle.lf_rules.specs.declared.shape.Shape.{Shape}
 use Rattle.lf_rules.specs.declared.event.Record.{Record}
 use Rattle.lf_rules.specs.declared.event.Event.{Event}
-use Rattle.lf_rules.specs.declared.event.Event.TheVariants.{Issue, Reply, Hit, Primary, Merge}
+use Rattle.lf_rules.specs.declared.event.Event.TheVariants.{Issue, Reply, Hit, Primary, Merge, Masked}
 use Rattle.lf_rules.specs.Address.{FlatMemory}
 use Rattle.lf_rules.specs.State.{Request}
 use Rattle.lf_rules.specs.Table.{request_of, is_store, value_of, accepted_if}
+use Rattle.lf_rules.specs.OuterTable.{masked_request}
 
 -- what a record does with the request of a port and tag
 pub data Act : Type 0 where
@@ -23,6 +24,8 @@ act_if b act = if b then act else Nothing
 abbrev pub act_of : Shape → ℕ → ℕ → ℕ → Event → Act
 act_of shape port tag log (Issue op t size address bytes) =
     act_if (log == port && t == tag) (Issues (request_of shape t op size address bytes.items))
+act_of shape port tag log (Masked op t block mask bytes) =
+    act_if (log == port && t == tag) (Issues (masked_request t op block mask.0 bytes.items))
 act_of shape port tag log (Reply t size bytes) = act_if (log == port && t == tag) Replies
 act_of shape port tag log (Hit p t) = act_if (p == port && t == tag) Accepts
 act_of shape port tag log (Primary p t register) = act_if (p == port && t == tag) Accepts
@@ -107,9 +110,9 @@ IsFlatFrom shape initial history [] = Unit {0}
 IsFlatFrom shape initial history (r ∷ rs) = IsFlatAt shape initial history r.log r.event ×
     IsFlatFrom shape initial (r ∷ history) rs
 
--- each load's reply is the initial memory changed by the stores accepted before that load
-abbrev pub IsFlat : Shape → FlatMemory → List Record → Type 0
-IsFlat shape initial rs = IsFlatFrom shape initial [] rs
+-- with level two: each load's reply is the initial memory changed by the stores accepted before that load
+abbrev pub IsFlatOfTwo : Shape → FlatMemory → List Record → Type 0
+IsFlatOfTwo shape initial rs = IsFlatFrom shape initial [] rs
 
 abbrev pub IsOnceAt : Shape → List Record → ℕ → Event → Type 0
 IsOnceAt shape history log (Reply tag size bytes) = IsTrue (is_outstanding shape log tag history)

@@ -6,6 +6,8 @@ pub mod Registers
 pub mod Lines
 pub mod State
 pub mod Table
+pub mod OuterTable
+pub mod Step
 pub mod Run
 pub mod Order
 pub mod Ring
@@ -18,7 +20,12 @@ pub mod Fits
 pub mod InRange
 -- What the laws say of these definitions.
 pub mod History
+pub mod OuterHistory
 pub mod Sharing
 pub mod Copies
+pub mod OuterCopies
+pub mod Chosen
+pub mod OneWriter
+pub mod PortOrder
 pub mod CommonOrder
 pub mod Laws

@@ -50,23 +50,31 @@ module _ {T : Type 0} where
   right_for_merge Inverted held block destination register = register == destination
   right_for_merge _ held block destination register = holds_in held register block
 
-  -- has the register a place left for a further target?
-  abbrev pub takes : OrgShape → (T → ℕ) → List (Held T) → ℕ → ℕ → Bool
-  takes (Implicit registers) position held register at = not
-      (list_any (λ h. h.register == register && position h.target == at) held)
-  takes (Explicit registers entries) position held register at =
+  -- Has the register a place left for a further target? `meets` are the targets that need a field which it needs.
+  abbrev pub takes_beside : OrgShape → (T → Bool) → List (Held T) → ℕ → Bool
+  takes_beside (Implicit registers) meets held register = not
+      (list_any (λ h. h.register == register && meets h.target) held)
+  takes_beside (Explicit registers entries) meets held register =
       nat_lt (count_by (λ h. h.register == register) held) entries
-  takes Inverted position held register at = is_free held register
+  takes_beside Inverted meets held register = is_free held register
 
   -- is there room for a target in flight or not?
-  abbrev pub has_room : OrgShape → ℕ → (T → ℕ) → List (Held T) → ℕ → ℕ → ℕ → Bool
-  has_room Inverted destinations position held block destination at =
+  abbrev pub has_room_beside : OrgShape → ℕ → (T → Bool) → List (Held T) → ℕ → ℕ → Bool
+  has_room_beside Inverted destinations meets held block destination =
       nat_lt destination destinations && is_free held destination
-  has_room organisation destinations position held block destination at =
+  has_room_beside organisation destinations meets held block destination =
       if holds held block
-      then list_any (λ r. holds_in held r block && takes organisation position held r at)
+      then list_any (λ r. holds_in held r block && takes_beside organisation meets held r)
       (range_with_len 0 (registers_of organisation destinations))
       else list_any (is_free held) (range_with_len 0 (registers_of organisation destinations))
+
+  -- the same where each target needs the field of one position
+  abbrev pub takes : OrgShape → (T → ℕ) → List (Held T) → ℕ → ℕ → Bool
+  takes organisation position held register at = takes_beside organisation (λ t. position t == at) held register
+
+  abbrev pub has_room : OrgShape → ℕ → (T → ℕ) → List (Held T) → ℕ → ℕ → ℕ → Bool
+  has_room organisation destinations position held block destination at =
+      has_room_beside organisation destinations (λ t. position t == at) held block destination
 
   -- what a primary miss to the block must meet to take the register, in order
   abbrev pub primary_clauses : OrgShape → ℕ → List (Held T) → ℕ → ℕ → ℕ → List Clause
@@ -78,10 +86,14 @@ module _ {T : Type 0} where
       ∷ []
 
   -- what a further miss to the block must meet to join the register, in order
-  abbrev pub merge_clauses : OrgShape → ℕ → (T → ℕ) → List (Held T) → ℕ → ℕ → ℕ → ℕ → List Clause
-  merge_clauses organisation destinations position held block destination at register =
+  abbrev pub merge_clauses_beside : OrgShape → ℕ → (T → Bool) → List (Held T) → ℕ → ℕ → ℕ → List Clause
+  merge_clauses_beside organisation destinations meets held block destination register =
       bank_wants NotInFlight (holds held block)
       ∷ bank_wants RegisterRange (nat_lt register (registers_of organisation destinations))
       ∷ bank_wants WrongRegister (right_for_merge organisation held block destination register)
-      ∷ bank_wants MergeFull (takes organisation position held register at)
+      ∷ bank_wants MergeFull (takes_beside organisation meets held register)
       ∷ []
+
+  abbrev pub merge_clauses : OrgShape → ℕ → (T → ℕ) → List (Held T) → ℕ → ℕ → ℕ → ℕ → List Clause
+  merge_clauses organisation destinations position held block destination at register =
+      merge_clauses_beside organisation destinations (λ t. position t == at) held block destination register

@@ -8,7 +8,8 @@ use Rattle.lf_rules.specs.declared.rule.Rule.{Rule}
 use Rattle.lf_rules.specs.Address.{FlatMemory, no_bank}
 use Rattle.lf_rules.specs.Fits.{Fits}
 use Rattle.lf_rules.specs.State.{State, Local, opening, seen_by, with_seen}
-use Rattle.lf_rules.specs.Table.{Side, OfPort, OfBank, OfBoth, Clause, clauses, bank_effect, port_effect}
+use Rattle.lf_rules.specs.Table.{Side, OfPort, OfBank, OfBoth, Clause, port_effect}
+use Rattle.lf_rules.specs.Step.{step_clauses, step_effect}
 
 -- ---- steps
 
@@ -28,15 +29,15 @@ first_failing side (clause ∷ clauses) =
 
 abbrev pub effect : Side → Shape → Local → Record → Local
 effect OfPort shape now r = port_effect now r
-effect OfBank shape now r = bank_effect shape now r
-effect OfBoth shape now r = port_effect (bank_effect shape now r) r
+effect OfBank shape now r = step_effect shape now r
+effect OfBoth shape now r = port_effect (step_effect shape now r) r
 
 -- ---- runs
 
 -- a run of one port or of one bank, by itself
 abbrev pub IsRunOf : Side → Shape → Local → List Record → Type 0
 IsRunOf side shape now [] = Unit {0}
-IsRunOf side shape now (r ∷ rs) = (first_failing side (clauses shape now r) ≡ None) ×
+IsRunOf side shape now (r ∷ rs) = (first_failing side (step_clauses shape now r) ≡ None) ×
     IsRunOf side shape (effect side shape now r) rs
 
 abbrev pub state_after : Shape → State → Record → State
@@ -46,7 +47,7 @@ state_after shape state r = with_seen r.log r.bank state (effect OfBoth shape (s
 abbrev pub IsRunFrom : Shape → State → List Record → Type 0
 IsRunFrom shape state [] = Unit {0}
 IsRunFrom shape state (r ∷ rs) =
-    (first_failing OfBoth (clauses shape (seen_by r.log r.bank state) r) ≡ None) ×
+    (first_failing OfBoth (step_clauses shape (seen_by r.log r.bank state) r) ≡ None) ×
     IsRunFrom shape (state_after shape state r) rs
 
 abbrev pub IsRun : Shape → FlatMemory → List Record → Type 0
@@ -101,19 +102,19 @@ fault_here place (Some rule) later = Some (place, rule)
 abbrev pub first_fault_of : Side → Shape → Local → ℕ → List Record → Option (ℕ × Rule)
 first_fault_of side shape now place [] = None
 first_fault_of side shape now place (r ∷ rs) =
-    fault_here place (first_failing side (clauses shape now r))
+    fault_here place (first_failing side (step_clauses shape now r))
     (first_fault_of side shape (effect side shape now r) (place + 1) rs)
 
 -- the same of the whole system
 abbrev pub first_fault : Shape → State → ℕ → List Record → Option (ℕ × Rule)
 first_fault shape state place [] = None
 first_fault shape state place (r ∷ rs) =
-    fault_here place (first_failing OfBoth (clauses shape (seen_by r.log r.bank state) r))
+    fault_here place (first_failing OfBoth (step_clauses shape (seen_by r.log r.bank state) r))
     (first_fault shape (state_after shape state r) (place + 1) rs)
 
 -- The first n records are a run of the side, and the next fails with the rule first.
 abbrev pub BreaksAt : Side → Shape → Local → List Record → ℕ → Rule → Type 0
 BreaksAt side shape now [] n rule = ⊥
-BreaksAt side shape now (r ∷ rs) zero rule = first_failing side (clauses shape now r) ≡ Some rule
-BreaksAt side shape now (r ∷ rs) (suc n) rule = (first_failing side (clauses shape now r) ≡ None) ×
+BreaksAt side shape now (r ∷ rs) zero rule = first_failing side (step_clauses shape now r) ≡ Some rule
+BreaksAt side shape now (r ∷ rs) (suc n) rule = (first_failing side (step_clauses shape now r) ≡ None) ×
     BreaksAt side shape (effect side shape now r) rs n rule

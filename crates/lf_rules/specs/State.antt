@@ -14,7 +14,8 @@ pub record Request : Type 0 where
   pub op : Op
   pub block : ℕ
   pub offset : ℕ
-  pub size : ℕ
+  pub size : ℕ  -- how many bytes it asks for
+  pub mask : ℕ  -- and which of the block
   pub bytes : List ℕ  -- what a store writes
 
 -- a request that missed, and its value where it is a load
@@ -37,6 +38,7 @@ Asked = ℕ × ℕ
 pub record Slice : Type 0 where
   pub queue : ℕ → List Request  -- of each port, the oldest first
   pub lines1 : Lines
+  pub shared : List ℕ  -- in a cache by itself, the blocks of lines that the outside may hold too
   pub lines2 : WideLines  -- by second-level blocks
   pub waiting : List (Held Missed)  -- the targets in level-one registers
   pub regs2 : List (Held Asked)  -- those in level-two registers, which hold second-level blocks
@@ -62,6 +64,7 @@ abbrev pub empty_slice : Slice
 empty_slice = record {
   queue = λ _. [];
   lines1 = [];
+  shared = [];
   lines2 = [];
   waiting = [];
   regs2 = [];

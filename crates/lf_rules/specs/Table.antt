@@ -12,13 +12,13 @@ use Rattle.lf_rules.specs.declared.event.Event.{Event}
 use Rattle.lf_rules.specs.declared.event.Event.TheVariants.{Issue, Reply, Fence, Hit, Primary, Merge, Stall, Fill1}
 use Rattle.lf_rules.specs.declared.event.Event.TheVariants.{Evict1}
 use Rattle.lf_rules.specs.declared.event.Event.TheVariants.{SecondHit, SecondPrimary, SecondMerge, SecondStall, Fill2}
-use Rattle.lf_rules.specs.declared.event.Event.TheVariants.{Evict2}
+use Rattle.lf_rules.specs.declared.event.Event.TheVariants.{Evict2, Masked, Grant, Clean1, Yield1, Outside}
 use Rattle.lf_rules.specs.declared.rule.Rule.TheVariants.{TagRange, TagBusy, NotOutstanding, NotReady, ReplySize}
 use Rattle.lf_rules.specs.declared.rule.Rule.TheVariants.{ReplyData, FenceBusy}
 use Rattle.lf_rules.specs.declared.rule.Rule.TheVariants.{NotHead, NotPresent, Present, NeedlessStall, NotSupplied}
 use Rattle.lf_rules.specs.declared.rule.Rule.TheVariants.{SetFull, FillData}
 use Rattle.lf_rules.specs.declared.rule.Rule.TheVariants.{EvictAbsent, EvictMask, EvictData, NotAsked, SecondAbsent}
-use Rattle.lf_rules.specs.declared.rule.Rule.TheVariants.{SecondPresent, NotFetched, Inclusion}
+use Rattle.lf_rules.specs.declared.rule.Rule.TheVariants.{SecondPresent, NotFetched, Inclusion, OutsideHeld}
 pub use Rattle.lf_rules.specs.Clauses.{Side, OfPort, OfBank, OfBoth, Clause, port_wants, bank_wants, both_want}
 use Rattle.lf_rules.specs.Address.{FlatMemory, block_of, offset_of, second_of, place_of, sub_block, places, set1_of}
 use Rattle.lf_rules.specs.Address.{set2_of}
@@ -39,8 +39,8 @@ request_of shape tag op size address bytes =
       op = op;
       block = block_of shape address;
       offset = offset_of shape address;
-      size =
-          size;
+      size = size;
+      mask = mask_of (offset_of shape address) size;
       bytes = bytes;
     }
 
@@ -48,7 +48,7 @@ abbrev pub is_store : Request → Bool
 is_store request = elim request.op [ Load ↦ false | Store ↦ true ]
 
 abbrev pub nobody : Request
-nobody = record { tag = 0; op = Load; block = 0; offset = 0; size = 0; bytes = [] }
+nobody = record { tag = 0; op = Load; block = 0; offset = 0; size = 0; mask = 0; bytes = [] }
 
 abbrev pub oldest : List Request → Request
 oldest [] = nobody
@@ -256,12 +256,19 @@ rules_of shape right busy slice log bank (Evict2 second masks bytes) =
     ∷ bank_wants EvictData right
     ∷ []
 rules_of shape right busy slice log bank Fence = port_wants FenceBusy (none_busy shape.tags busy) ∷ []
+-- what only a cache by itself records
+rules_of shape right busy slice log bank (Masked op tag block mask bytes) = both_want OutsideHeld false ∷ []
+rules_of shape right busy slice log bank (Grant block) = bank_wants OutsideHeld false ∷ []
+rules_of shape right busy slice log bank (Clean1 block mask bytes) = bank_wants OutsideHeld false ∷ []
+rules_of shape right busy slice log bank (Yield1 block) = bank_wants OutsideHeld false ∷ []
+rules_of shape right busy slice log bank (Outside block mask bytes) = bank_wants OutsideHeld false ∷ []
 
 -- ---- effects
 
 -- an issue makes the tag busy, a reply frees it
 abbrev pub busy_after : (ℕ → Option ℕ) → ℕ → Event → ℕ → Option ℕ
 busy_after busy bank (Issue op tag size address bytes) = update busy tag (Some bank)
+busy_after busy bank (Masked op tag block mask bytes) = update busy tag (Some bank)
 busy_after busy bank (Reply tag size bytes) = update busy tag None
 busy_after busy bank _ = busy
 
@@ -367,7 +374,7 @@ slice_after shape value replies slice log (Fill2 second bytes) =
     }
 slice_after shape value replies slice log (Evict2 second masks bytes) =
     record slice { lines2 = without_line slice.lines2 second }
-slice_after shape value replies slice log Fence = slice
+slice_after shape value replies slice log _ = slice
 
 -- what an accepted load has for a value
 abbrev pub value_at : FlatMemory → Option Request → List ℕ

@@ -30,7 +30,8 @@ pub enum Op {
     Store,
 }
 
-/// What happened. Issues, replies and fences stand in a port's log, the others in a bank's.
+/// What happened. Issues, masked requests, replies and fences stand in a port's log, the others in a
+/// bank's.
 #[derive(Drop, PartialEq, Eq)]
 pub enum Event {
     /// A port sends a request. `bytes` is what a store writes, and empty for a load.
@@ -111,6 +112,35 @@ pub enum Event {
     SecondMerge {
         block: u32,
         register: u16,
+    },
+    /// A port sends a request for the bytes of a block under a mask. `bytes` is what a store writes there,
+    /// and empty for a load. Like the kinds below, only a cache by itself has it.
+    Masked {
+        op: Op,
+        tag: u8,
+        block: u32,
+        mask: Mask,
+        bytes: Block,
+    },
+    /// Level one gets the right to write a block that it has.
+    Grant {
+        block: u32,
+    },
+    /// Level one writes a line's dirty bytes back and keeps the line. `bytes` are those under the mask.
+    Clean1 {
+        block: u32,
+        mask: Mask,
+        bytes: Block,
+    },
+    /// Level one gives up the right to write a block, and keeps its line.
+    Yield1 {
+        block: u32,
+    },
+    /// The outside writes bytes of a block. `bytes` are those under the mask.
+    Outside {
+        block: u32,
+        mask: Mask,
+        bytes: Block,
     },
 }
 

@@ -1,7 +1,8 @@
 //! The laws of the definitions. Each function has an empty body: its contract is the law.
 
 ghost use Rattle.lf_rules.specs.CommonOrder.{CollectedLogsAreFree};
-ghost use Rattle.lf_rules.specs.Laws.{CopyRunsAreRuns, RunsAnswerOnce, RunsAreFlat, RunsShare};
+ghost use Rattle.lf_rules.specs.Laws.{CopyRunsAreRuns, IssuesAreMasked, RunsAnswerOnce, RunsAreFlat, RunsHaveOneWriter};
+ghost use Rattle.lf_rules.specs.Laws.{RunsKeepPortOrder, RunsShare};
 ghost use Rattle.lf_rules.specs.Numbers.{GapsAdmitNone, InterleavingsAreNumbered, InterleavingsFit, NumberedIsOne};
 ghost use Rattle.lf_rules.specs.Numbers.{NumberedIsWhole};
 ghost use Rattle.lf_rules.specs.Order.{EntriesKeepAlike, LogsFollow, OrdersInterleave, OrdersTakeOne, SkeletonsFollow};
@@ -19,6 +20,13 @@ pub fn runs_are_right()
     ensures once { RunsAnswerOnce }
     ensures sharing { RunsShare }
     ensures flat { RunsAreFlat }
+    ensures one_writer { RunsHaveOneWriter }
+    ensures port_order { RunsKeepPortOrder }
+{}
+
+/// What an issue reads and writes in a cache by itself, by its mask, is what it does by its offset and size.
+pub fn issues_are_masked()
+    ensures { IssuesAreMasked }
 {}
 
 /// A run whose levels hold copies of the bytes is a run over flat memory.

@@ -4,6 +4,7 @@ ghost use Rattle.std.specs.Prelude.{◌≡◌, ℕ, ◌+◌, ◌<◌, ◌≤◌,
 ghost use Rattle.std.specs.Prelude.{length, slice_index};
 ghost use Rattle.lf_rules.specs.Address.{Covers, agree_off, is_under, mask_at, mask_of, overlay};
 ghost use Rattle.lf_rules.specs.Lines.{clean_masks, same_masks};
+ghost use Rattle.lf_rules.specs.OuterTable.{bytes_under, laid, meet, share_word, touches};
 
 use crate::event::{Block, Masks};
 
@@ -38,6 +39,28 @@ impl Mask {
         ensures { IsTrue result ↔ Covers self.0 other.0 }
     {
         self.0 & other.0 == other.0
+    }
+
+    /// Whether the masks have a byte in common.
+    pub fn meets(self, other: Mask) -> bool
+        ensures { result ≡ meet self.0 other.0 }
+    {
+        self.0 & other.0 != 0
+    }
+
+    /// Whether a byte of the word of eight bytes is one of the mask.
+    pub fn touches(self, word: u8) -> bool
+        requires { word < 8 }
+        ensures { result ≡ touches self.0 word }
+    {
+        (0..8).any(|i| self.has(usize::from(word) * 8 + i))
+    }
+
+    /// Whether the masks touch a word in common.
+    pub fn shares_word(self, other: Mask) -> bool
+        ensures { result ≡ share_word self.0 other.0 }
+    {
+        (0..8).any(|word| self.touches(word) && other.touches(word))
     }
 
     /// Whether the byte at the place is one of the mask.
@@ -121,4 +144,61 @@ pub fn clean_masks(factor: u32) -> Masks
         masks.push(Mask(0));
     }
     masks
+}
+
+fn slice_under(bytes: &[u8], mask: Mask) -> Block
+    requires { length bytes.now ≤ 64 }
+    ensures { result.items ≡ bytes_under (length bytes.now) mask.0 (slice_index bytes.now) }
+{
+    let mut few = Block::new();
+    for (i, x) in bytes.iter().enumerate() {
+        if mask.has(i) {
+            few.push(*x);
+        }
+    }
+    few
+}
+
+/// The bytes of the block under the mask, rising.
+pub fn bytes_under(block: &Block, mask: Mask) -> Block
+    ensures { result.items ≡ bytes_under (length block.now.items) mask.0 (slice_index block.now.items) }
+{
+    slice_under(block, mask)
+}
+
+fn byte_at(bytes: &[u8], place: usize) -> u8
+    ensures { result ≡ slice_index bytes.now place }
+{
+    match bytes.get(place) {
+        Some(byte) => *byte,
+        None => 0,
+    }
+}
+
+fn lay_slices(block: &[u8], mask: Mask, bytes: &[u8]) -> Block
+    requires { length block.now ≤ 64 }
+    ensures len { length result.items ≡ length block.now }
+    ensures bytes { (i : ℕ) → i < length block.now → slice_index result.items i
+        ≡ laid mask.0 bytes.now (slice_index block.now) i }
+{
+    let mut all = Block::new();
+    let mut next = 0;
+    for (i, x) in block.iter().enumerate() {
+        if mask.has(i) {
+            all.push(byte_at(bytes, next));
+            next += 1;
+        } else {
+            all.push(*x);
+        }
+    }
+    all
+}
+
+/// The block where these bytes are laid under the mask, rising.
+pub fn laid(block: &Block, mask: Mask, bytes: &Block) -> Block
+    ensures len { length result.items ≡ length block.now.items }
+    ensures bytes { (i : ℕ) → i < length block.now.items → slice_index result.items i
+        ≡ laid mask.0 bytes.now.items (slice_index block.now.items) i }
+{
+    lay_slices(block, mask, bytes)
 }

@@ -24,7 +24,7 @@ pub enum Rule {
     NotHead,
     /// Level one has the block.
     NotPresent,
-    /// Level one does not have the block.
+    /// Level one does not have the block. In a cache by itself: the request cannot take effect on its line.
     Present,
     /// No register holds the block.
     PrimaryInFlight,
@@ -64,6 +64,12 @@ pub enum Rule {
     Inclusion,
     /// No tag of the port is busy.
     FenceBusy,
+    /// The request is a load, or level one has the right to write the block.
+    NotOwned,
+    /// No waiting request of the port has a byte of the request.
+    Overtakes,
+    /// Level one does not have the block that the outside writes.
+    OutsideHeld,
 }
 
 impl Rule {
@@ -100,6 +106,9 @@ impl Rule {
             Rule::NotFetched => "NotFetched",
             Rule::Inclusion => "Inclusion",
             Rule::FenceBusy => "FenceBusy",
+            Rule::NotOwned => "NotOwned",
+            Rule::Overtakes => "Overtakes",
+            Rule::OutsideHeld => "OutsideHeld",
         }
     }
 }

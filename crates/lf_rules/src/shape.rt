@@ -23,7 +23,25 @@ pub struct Level {
     pub organisation: OrgShape,
 }
 
-/// A two-level lockup-free cache.
+/// What is below level one.
+#[derive(Clone, Copy, PartialEq, Eq)]
+pub enum Below {
+    /// Level two, and below it memory that only level two reads and writes.
+    LevelTwo,
+    /// All that is below and beside the cache: a further level, memory, other caches, devices.
+    Outside,
+}
+
+/// What a store makes dirty of its line.
+#[derive(Clone, Copy, PartialEq, Eq)]
+pub enum Grain {
+    /// The bytes that it writes.
+    Byte,
+    /// All bytes of the line.
+    Line,
+}
+
+/// A two-level lockup-free cache, or a cache by itself.
 #[derive(Clone, Copy, PartialEq, Eq)]
 pub struct Shape {
     /// 1 to 16.
@@ -38,6 +56,10 @@ pub struct Shape {
     pub factor: u32,
     /// The level that the ports ask.
     pub level1: Level,
-    /// The level that level one asks.
+    /// The level that level one asks. A cache by itself has none, and nothing looks at it.
     pub level2: Level,
+    /// What is below level one.
+    pub below: Below,
+    /// What a store makes dirty of its line, in a cache by itself.
+    pub grain: Grain,
 }

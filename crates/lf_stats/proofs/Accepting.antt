@@ -5,14 +5,18 @@ use Rattle.std.proofs.Common.{eqb-true}
 use Rattle.std.specs.List.{filter_map, cons_option, slice_get}
 use Rattle.std.proofs.lemmas.List.{length-append}
 use Rattle.std.proofs.lemmas.List.Sums.{sum_by-cons}
+use Rattle.lf_rules.specs.declared.shape.Below.{Below}
+use Rattle.lf_rules.specs.declared.shape.Below.TheVariants.{LevelTwo, Outside}
 use Rattle.lf_rules.specs.declared.shape.Shape.{Shape}
 use Rattle.lf_rules.specs.declared.event.Record.{Record}
 use Rattle.lf_rules.specs.declared.event.Event.{Event}
-use Rattle.lf_rules.specs.declared.event.Event.TheVariants.{Issue, Hit, Primary, Merge}
+use Rattle.lf_rules.specs.declared.event.Event.TheVariants.{Issue, Hit, Primary, Merge, Masked}
 use Rattle.lf_rules.specs.declared.rule.Rule.{Rule}
 use Rattle.lf_rules.specs.declared.rule.Rule.TheVariants.{NotHead}
-use Rattle.lf_rules.specs.Address.{block_of}
+use Rattle.lf_rules.specs.Address.{FlatMemory, block_of}
+use Rattle.lf_rules.specs.OuterTable.{masked_request, brings, outer_rules, outer_slice, outer_effect}
 use Rattle.lf_rules.specs.State.{Request, Ready, Slice, Local, opening, seen_by}
+use Rattle.lf_rules.specs.Step.{by_below, step_clauses, step_effect}
 use Rattle.lf_rules.specs.Table.{OfBank, Clause, bank_wants, is_head, request_of, carries, rules_of, slice_after}
 use Rattle.lf_rules.specs.Table.{value_at, replies_at, bank_effect}
 use Rattle.lf_rules.specs.Table as table
@@ -72,19 +76,29 @@ queue_there ports slice p tag rest port none same =
     (head_there (slice.queue p) tag (both_hold (nat_lt p ports) (is_head (slice.queue p) tag)
     (first_holds NotHead (nat_lt p ports && is_head (slice.queue p) tag) rest none)))
 
-waits_there : (shape : Shape) (right : Bool) (busy : ℕ → Option ℕ) (slice : Slice) (log bank : ℕ) (event : Event)
-    (port : ℕ) → first_failing OfBank (rules_of shape right busy slice log bank event) ≡ None
-    → accepts port event ≡ true → 0 < length (slice.queue port)
-waits_there shape right busy slice log bank (Hit p tag) port none is =
-    queue_there shape.ports slice p tag (drop 1 (rules_of shape right busy slice log bank (Hit p tag)))
-    port none is
-waits_there shape right busy slice log bank (Primary p tag register) port none is =
-    queue_there shape.ports slice p tag (drop 1 (rules_of shape right busy slice log bank (Primary p tag register)))
-    port none is
-waits_there shape right busy slice log bank (Merge p tag register) port none is =
-    queue_there shape.ports slice p tag (drop 1 (rules_of shape right busy slice log bank (Merge p tag register)))
-    port none is
-waits_there shape right busy slice log bank _ port none is = absurd (cc)
+module _ (shape : Shape) (right left : Bool) (busy : ℕ → Option ℕ) (slice : Slice) (log bank port : ℕ) where
+  -- the clauses of an event with level two, and in a cache by itself
+  abbrev two : Event → List Clause
+  two event = rules_of shape right busy slice log bank event
+
+  abbrev outer : Event → List Clause
+  outer event = outer_rules shape left busy slice log bank event
+
+  waits_there : (k : Below) (event : Event) → first_failing OfBank (by_below k (two event) (outer event)) ≡ None
+      → accepts port event ≡ true → 0 < length (slice.queue port)
+  waits_there LevelTwo (Hit p tag) none is =
+      queue_there shape.ports slice p tag (drop 1 (two (Hit p tag))) port none is
+  waits_there LevelTwo (Primary p tag register) none is =
+      queue_there shape.ports slice p tag (drop 1 (two (Primary p tag register))) port none is
+  waits_there LevelTwo (Merge p tag register) none is =
+      queue_there shape.ports slice p tag (drop 1 (two (Merge p tag register))) port none is
+  waits_there Outside (Hit p tag) none is =
+      queue_there shape.ports slice p tag (drop 1 (outer (Hit p tag))) port none is
+  waits_there Outside (Primary p tag register) none is =
+      queue_there shape.ports slice p tag (drop 1 (outer (Primary p tag register))) port none is
+  waits_there Outside (Merge p tag register) none is =
+      queue_there shape.ports slice p tag (drop 1 (outer (Merge p tag register))) port none is
+  waits_there k _ none is = absurd (cc)
 
 -- ---- how long the queue of a port is after a record
 
@@ -131,9 +145,43 @@ grows shape value replies slice log (Merge p tag register) port there =
     let less = dropped p port slice.queue there in omega (arith, less)
 grows shape value replies slice log _ port there = omega arith
 
+grows_outside : (shape : Shape) (memory : FlatMemory) (slice : Slice) (log : ℕ) (event : Event) (port : ℕ)
+    → (accepts port event ≡ true → 0 < length (slice.queue port))
+    → length ((outer_slice shape memory slice log event).queue port) + one (accepts port event)
+    ≤ length (slice.queue port) + issues shape port log event
+grows_outside shape memory slice log (Issue op tag size address bytes) port there =
+    let more = pushed log port slice.queue (request_of shape tag op size address bytes.items)
+    (block_of shape address) in
+    omega (arith, more)
+grows_outside shape memory slice log (Masked op tag block mask bytes) port there =
+    let more = pushed log port slice.queue (masked_request tag op block mask.0 bytes.items) block in
+    omega (arith, more)
+grows_outside shape memory slice log (Hit p tag) port there =
+    let less = dropped p port slice.queue there in omega (arith, less)
+grows_outside shape memory slice log (Primary p tag register) port there =
+    let less = dropped p port slice.queue there in omega (arith, less)
+grows_outside shape memory slice log (Merge p tag register) port there =
+    let less = dropped p port slice.queue there in omega (arith, less)
+grows_outside shape memory slice log _ port there = omega arith
+
+grows_step : (shape : Shape) (k : Below) (now : Local) (x : Record) (port : ℕ)
+    → (accepts port x.event ≡ true → 0 < length (now.slice.queue port))
+    → length ((by_below k (bank_effect shape now x).slice (outer_effect shape now x).slice).queue port)
+    + one (accepts port x.event)
+    ≤ length (now.slice.queue port) + issues shape port x.log x.event
+grows_step shape LevelTwo now x port there =
+    grows shape (value_at now.memory (table.accepts now.slice x.event)) (replies_at now.slice x.event) now.slice x.log
+    x.event port there
+grows_step shape Outside now x port there = grows_outside shape now.memory now.slice x.log x.event port there
+
 -- ---- a run
 
 module _ (shape : Shape) (port : ℕ) where
+  there : (now : Local) (x : Record) → first_failing OfBank (step_clauses shape now x) ≡ None →
+      accepts port x.event ≡ true → 0 < length (now.slice.queue port)
+  there now x none is = waits_there shape (carries shape now.memory now.slice x.event)
+      (brings shape now.memory now.slice x.event) now.busy now.slice x.log x.bank port shape.below x.event none is
+
   -- as many requests wait first as are in the queue of the port
   ahead : (now : Local) (rs : List Record) → IsRunOf OfBank shape now rs → (n : ℕ) (r : Record)
       → slice_get rs n ≡ Some r → accepts port r.event ≡ true
@@ -141,20 +189,16 @@ module _ (shape : Shape) (port : ℕ) where
   ahead now [] run n r here is = absurd (cc)
   ahead now (x ∷ rs) run zero r here is =
       let same : x ≡ r = cc in
-      let some = waits_there shape (carries shape now.memory now.slice x.event) now.busy now.slice x.log x.bank x.event
-      port run.0 (ap (λ (x : Record). accepts port x.event) same ∙ is) in
+      let some = there now x run.0 (ap (λ (x : Record). accepts port x.event) same ∙ is) in
       omega (arith, some)
   ahead now (x ∷ rs) run (suc n) r here is =
-      let there = waits_there shape (carries shape now.memory now.slice x.event) now.busy now.slice x.log x.bank x.event
-      port run.0 in
-      let step = grows shape (value_at now.memory (table.accepts now.slice x.event)) (replies_at now.slice x.event)
-      now.slice x.log x.event port there in
+      let step = grows_step shape shape.below now x port (there now x run.0) in
       omega (
         arith,
         step,
         accepted_cons port x (take n rs),
         issued_cons shape port x (take n rs),
-        ahead (bank_effect shape now x) rs run.1 n r here is,
+        ahead (step_effect shape now x) rs run.1 n r here is,
       )
 
 pub runs_accept_issued : SliceRunsAcceptIssued

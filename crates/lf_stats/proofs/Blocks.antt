@@ -1,5 +1,5 @@
 -- One more block of a port.
-use Rattle.std.proofs.Common.{◌≡◌, ℕ, ◌+◌, ◌<◌, Bool, true, false, cond, eqb, List, [], ◌∷◌, ◌++◌, map, length}
+use Rattle.std.proofs.Common.{◌≡◌, ℕ, ◌+◌, ◌/◌, ◌<◌, Bool, true, false, cond, eqb, List, [], ◌∷◌, ◌++◌, map, length}
 use Rattle.std.proofs.Common.{get_or, set, take, Option, Some, None, refl, sym, ap, ◌∙◌, ⊎_elim, arith}
 use Rattle.std.specs.List.{filter_map, cons_option}
 use Rattle.std.specs.Global.{Vec}
@@ -9,18 +9,13 @@ use Rattle.std.proofs.lemmas.List.Elements.{filter-append, filter_map-append}
 use Rattle.std.proofs.lemmas.Bool.{cases_eq, eq-eqb, ne_eqb}
 use Rattle.lf_rules.specs.declared.shape.Shape.{Shape}
 use Rattle.lf_rules.specs.declared.event.Record.{Record}
-use Rattle.arrayvec.specs.ArrayVec.{ArrayVec}
-use Rattle.lf_rules.specs.declared.event.Op.{Op}
 use Rattle.lf_rules.specs.declared.event.Event.{Event}
-use Rattle.lf_rules.specs.declared.event.Event.TheVariants.{Issue}
-use Rattle.trace_views.specs.declared.event_view.EventView.{EventView}
-use Rattle.trace_views.specs.declared.event_view.EventView.TheVariants as views
-use Rattle.trace_views.specs.Views.{event_of}
-use Rattle.lf_rules.specs.Address.{block_of}
+use Rattle.lf_rules.specs.declared.event.Event.TheVariants.{Issue, Masked}
 use Rattle.lf_logs.specs.declared.order.Place.{Place}
 use Rattle.lf_logs.specs.Places.{record_at, records_at}
 use Rattle.lf_rules.specs.Run.{of_log}
 use Rattle.lf_stats.specs.Statistics.{issued, block_issued}
+use Rattle.lf_stats.specs.Tally.{block_by}
 
 -- the block if it is so
 abbrev pub block_if : Bool → ℕ → Option ℕ
@@ -67,11 +62,12 @@ placed vecs i v w block read pushed inside port =
     ∙ sym (ap (λ b. blocks_at vecs port ++ cons_option (block_if b block) []) (ne_eqb i port other)))
     (cases_eq i port)
 
-pub not_issue : (shape : Shape) (event : EventView)
-    → ((op : Op) (tag size address : ℕ) (bytes : _) → event ≡ views.Issue op tag size address bytes → ⊥)
-    → block_issued shape (event_of event) ≡ None
-not_issue shape (views.Issue op tag size address bytes) never = absurd (never op tag size address bytes refl)
-not_issue shape _ never = refl
+-- the block of the request that an event issues, by the size of a block
+pub block_by_size : (shape : Shape) (size : ℕ) (event : Event) → size ≡ shape.block →
+    block_by size event ≡ block_issued shape event
+block_by_size shape size (Issue op tag len address bytes) same = ap (λ n. Some (address / n)) same
+block_by_size shape size (Masked op tag block mask bytes) same = refl
+block_by_size shape size _ same = refl
 
 none_if : (b : Bool) (o : Option ℕ) → o ≡ None → cond b o None ≡ None
 none_if true o none = none
@@ -106,11 +102,10 @@ module _ (shape : Shape) (logs : List (List Record)) (places : List Place) (at :
       (none_if (eqb r.log port) (block_issued shape r.event) none)
       ∙ append-nil (issued shape port (records_at logs (take at places)))
 
-  pub issued_new : (op : Op) (tag size address : ℕ) (bytes : ArrayVec ℕ) → r.event ≡ Issue op tag size address bytes →
+  pub issued_new : (block : ℕ) → block_issued shape r.event ≡ Some block →
       issued shape port (records_at logs (take (at + 1) places))
-      ≡ issued shape port (records_at logs (take at places))
-      ++ cons_option (block_if (eqb r.log port) (block_of shape address)) []
-  issued_new op tag size address bytes e =
+      ≡ issued shape port (records_at logs (take at places)) ++ cons_option (block_if (eqb r.log port) block) []
+  issued_new block some =
       issued_more
-      ∙ ap (λ event. issued shape port (records_at logs (take at places))
-      ++ cons_option (issued_by shape port r.log event) []) e
+      ∙ ap (λ o. issued shape port (records_at logs (take at places))
+      ++ cons_option (cond (eqb r.log port) o None) []) some

@@ -11,7 +11,7 @@ use Rattle.std.proofs.lemmas.List.Sorted.{sum_by-IsPermutation}
 use Rattle.lf_rules.specs.declared.shape.Shape.{Shape}
 use Rattle.lf_rules.specs.declared.event.Record.{Record}
 use Rattle.lf_rules.specs.declared.event.Event.{Event}
-use Rattle.lf_rules.specs.declared.event.Event.TheVariants.{Issue, Reply, Fence}
+use Rattle.lf_rules.specs.declared.event.Event.TheVariants.{Issue, Reply, Fence, Masked}
 use Rattle.lf_rules.specs.Fits.{Fits, FitsBank, FitsLog}
 use Rattle.lf_rules.specs.Numbers.{IsNumbered, IsWhole, all_records, numbers_of, times}
 use Rattle.lf_rules.specs.Run.{Interleaves, of_bank, of_log}
@@ -27,6 +27,7 @@ use Rattle.lf_stats.specs.Tally.{CountsAreStatistics}
 log_below : (ports bank number log banks : ℕ) (event : Event) → FitsBank banks bank number event
     → FitsLog ports bank log event → log < ports + banks
 log_below ports bank number log banks (Issue op tag size address bytes) named fits = omega arith
+log_below ports bank number log banks (Masked op tag block mask bytes) named fits = omega arith
 log_below ports bank number log banks (Reply tag size bytes) named fits = omega arith
 log_below ports bank number log banks Fence named fits = omega arith
 log_below ports bank number log banks _ named fits = omega arith

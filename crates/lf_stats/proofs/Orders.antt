@@ -9,7 +9,7 @@ use Rattle.std.specs.Global.{Vec}
 use Rattle.lf_rules.specs.declared.shape.Shape.{Shape}
 use Rattle.lf_rules.specs.declared.event.Record.{Record}
 use Rattle.lf_rules.specs.declared.event.Event.{Event}
-use Rattle.lf_rules.specs.declared.event.Event.TheVariants.{Primary, Merge, Fill1}
+use Rattle.lf_rules.specs.declared.event.Event.TheVariants.{Primary, Merge, Fill1, Grant}
 use Rattle.lf_stats.specs.Standing.{Holding}
 use Rattle.lf_stats.specs.Standing.{AreAlike, IsHeld, named, next_of, registers_of}
 use Rattle.lf_stats.proofs.Distinct.{distinct-le-length}
@@ -52,6 +52,9 @@ pub held_by_le : (next : ℕ → Option ℕ) (event : Event) (holds : List (ℕ 
 held_by_le next (Primary port tag register) holds = hold_le (next port) register holds
 held_by_le next (Merge port tag register) holds = hold_le (next port) register holds
 held_by_le next (Fill1 block bytes) holds =
+    let others = λ (h : ℕ × ℕ). not (h.0 == block) in
+    omega (arith, length-filter others holds, count_by-le-length others holds)
+held_by_le next (Grant block) holds =
     let others = λ (h : ℕ × ℕ). not (h.0 == block) in
     omega (arith, length-filter others holds, count_by-le-length others holds)
 held_by_le next _ holds = omega arith

@@ -10,7 +10,7 @@ use Rattle.std.proofs.lemmas.List.Sums.{sum_by_push}
 use Rattle.lf_rules.specs.declared.shape.Shape.{Shape}
 use Rattle.lf_rules.specs.declared.event.Record.{Record}
 use Rattle.lf_rules.specs.declared.event.Event.{Event}
-use Rattle.lf_rules.specs.declared.event.Event.TheVariants.{Issue, Primary, Merge}
+use Rattle.lf_rules.specs.declared.event.Event.TheVariants.{Issue, Primary, Merge, Masked}
 use Rattle.lf_rules.specs.Run.{of_log}
 use Rattle.lf_stats.specs.declared.bank_count.BankCount.{BankCount}
 use Rattle.lf_stats.specs.Standing.{AreAlike, IsHeld, registers_of}
@@ -152,6 +152,7 @@ held_by_at next other _ holds same = refl
 -- an event that accepts a request issues none
 none_issued : (shape : Shape) (port : ℕ) (event : Event) → accepts port event ≡ true → block_issued shape event ≡ None
 none_issued shape port (Issue op tag size address bytes) never = absurd (cc)
+none_issued shape port (Masked op tag block mask bytes) never = absurd (cc)
 none_issued shape port _ accepting = refl
 
 none_either : (b : Bool) (o : Option ℕ) → o ≡ None → cons_option (cond b o None) [] ≡ []
@@ -300,6 +301,7 @@ block_of_size shape size port r of_shape =
   where
     go : (event : Event) → block_by shape.block event ≡ block_issued shape event
     go (Issue op tag len address bytes) = refl
+    go (Masked op tag block mask bytes) = refl
     go _ = refl
 
 module _ (shape : Shape) (rs : List Record) (r : Record) (old new : BankCount) (next : IsNext r old new)

@@ -9,6 +9,7 @@ use Rattle.std.proofs.lemmas.List.Sums.{fold_more, length-filter, sum_by-cons, c
 use Rattle.std.proofs.lemmas.List.FromFn.{fill_by_all}
 use Rattle.std.proofs.lemmas.Bool.{cases_eq, eq-eqb, ne_eqb}
 use Rattle.lf_rules.specs.declared.event.Op.{Op}
+use Rattle.lf_rules.specs.declared.mask.Mask.{Mask}
 use Rattle.lf_rules.specs.declared.event.Record.{Record}
 use Rattle.trace_views.specs.declared.event_view.EventView.{EventView}
 use Rattle.trace_views.specs.declared.event_view.EventView.TheVariants as views
@@ -41,11 +42,15 @@ waits_more log at r inside read tag =
 
 pub waits_same : (tag : ℕ) (before : Bool) (event : EventView)
     → ((op : Op) (t size address : ℕ) (bytes : _) → event ≡ views.Issue op t size address bytes → ⊥)
+    → ((op : Op) (t block : ℕ) (mask : Mask) (bytes : _) → event ≡ views.Masked op t block mask bytes → ⊥)
     → ((t size : ℕ) (bytes : _) → event ≡ views.Reply t size bytes → ⊥)
     → waits_after tag before (event_of event) ≡ before
-waits_same tag before (views.Issue op t size address bytes) never none = absurd (never op t size address bytes refl)
-waits_same tag before (views.Reply t size bytes) never none = absurd (none t size bytes refl)
-waits_same tag before _ never none = refl
+waits_same tag before (views.Issue op t size address bytes) never masked none =
+    absurd (never op t size address bytes refl)
+waits_same tag before (views.Masked op t block mask bytes) never masked none =
+    absurd (masked op t block mask bytes refl)
+waits_same tag before (views.Reply t size bytes) never masked none = absurd (none t size bytes refl)
+waits_same tag before _ never masked none = refl
 
 count_by-map : {X : Type 0} (f : X → Bool) (xs : List X) → count_by (λ b. b) (map f xs) ≡ count_by f xs
 count_by-map f [] = refl

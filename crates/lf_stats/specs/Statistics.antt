@@ -6,7 +6,8 @@ use Rattle.std.specs.List.{range_with_len, filter_map, list_any}
 use Rattle.lf_rules.specs.declared.shape.Shape.{Shape}
 use Rattle.lf_rules.specs.declared.event.Record.{Record}
 use Rattle.lf_rules.specs.declared.event.Event.{Event}
-use Rattle.lf_rules.specs.declared.event.Event.TheVariants.{Issue, Hit, Primary, Merge, Stall, Fill1}
+use Rattle.lf_rules.specs.declared.event.Event.TheVariants.{Issue, Hit, Primary, Merge, Stall, Fill1, Masked}
+use Rattle.lf_rules.specs.declared.event.Event.TheVariants.{Grant}
 use Rattle.lf_rules.specs.Address.{block_of}
 use Rattle.lf_rules.specs.Run.{of_log}
 -- how many tags of a port's log wait for a reply
@@ -43,6 +44,7 @@ accepts p _ = false
 -- the block of the request that an event issues
 abbrev pub block_issued : Shape → Event → Option ℕ
 block_issued shape (Issue op tag size address bytes) = Some (block_of shape address)
+block_issued shape (Masked op tag block mask bytes) = Some block
 block_issued shape _ = None
 
 -- the blocks of the port's issues, in their order
@@ -65,11 +67,12 @@ abbrev pub hold : Option ℕ → ℕ → List (ℕ × ℕ) → List (ℕ × ℕ)
 hold None register held = held
 hold (Some block) register held = held ++ (block, register) ∷ []
 
--- a Primary or Merge holds its register for its request's block, and Fill1 ends all holds for its block
+-- a Primary or Merge holds its register for its request's block, and Fill1 and Grant end all holds for their block
 abbrev pub held_by : (ℕ → Option ℕ) → Event → List (ℕ × ℕ) → List (ℕ × ℕ)
 held_by next (Primary port tag register) held = hold (next port) register held
 held_by next (Merge port tag register) held = hold (next port) register held
 held_by next (Fill1 block bytes) held = filter (λ h. not (h.0 == block)) held
+held_by next (Grant block) held = filter (λ h. not (h.0 == block)) held
 held_by next _ held = held
 
 abbrev pub held_after : (ℕ → Option ℕ) → Option Record → List (ℕ × ℕ) → List (ℕ × ℕ)

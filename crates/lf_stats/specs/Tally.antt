@@ -6,7 +6,7 @@ use Rattle.std.specs.declared.collections.VecDeque.{VecDeque}
 use Rattle.std.specs.List.{All, AllByRecursion}
 use Rattle.lf_rules.specs.declared.shape.Shape.{Shape}
 use Rattle.lf_rules.specs.declared.event.Event.{Event}
-use Rattle.lf_rules.specs.declared.event.Event.TheVariants.{Issue}
+use Rattle.lf_rules.specs.declared.event.Event.TheVariants.{Issue, Masked}
 use Rattle.lf_rules.specs.declared.event.Record.{Record}
 use Rattle.lf_rules.specs.Address.{FlatMemory}
 use Rattle.lf_rules.specs.Fits.{Fits}
@@ -36,6 +36,7 @@ SliceRunsAcceptIssued = (shape : Shape) (memory : FlatMemory) (rs : List Record)
 -- the block of the request that an event issues, where a block has so many bytes
 abbrev pub block_by : ℕ → Event → Option ℕ
 block_by size (Issue op tag len address bytes) = Some (address / size)
+block_by size (Masked op tag block mask bytes) = Some block
 block_by size _ = None
 
 -- the blocks of the port's requests that are issued and not yet accepted, the oldest first, and the oldest of them

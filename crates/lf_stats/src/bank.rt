@@ -34,7 +34,9 @@ fn hold(
                 held.hold(alloc, block, *register)?;
             }
         }
-        EventView::Fill1 { block, .. } => held.release(u64::from(*block)),
+        EventView::Fill1 { block, .. } | EventView::Grant { block } => {
+            held.release(u64::from(*block));
+        }
         _ => {}
     }
     Ok(())

@@ -107,6 +107,9 @@ impl BankCount {
                     *address / u64::from(self.size),
                 )?;
             }
+            EventView::Masked { block, .. } => {
+                issue(&mut self.queues, item.log(), u64::from(*block))?;
+            }
             EventView::Hit { port, .. } => {
                 let _ = accept(&mut self.queues, *port);
             }
@@ -115,7 +118,9 @@ impl BankCount {
                     self.held.hold(self.alloc, block, *register)?;
                 }
             }
-            EventView::Fill1 { block, .. } => self.held.release(u64::from(*block)),
+            EventView::Fill1 { block, .. } | EventView::Grant { block } => {
+                self.held.release(u64::from(*block));
+            }
             _ => {}
         }
         Ok(())

@@ -7,6 +7,7 @@ ghost use Rattle.trace_views.specs.Views.{event_of};
 ghost use Rattle.lf_logs.specs.Places.{record_at, records_at};
 ghost use Rattle.lf_stats.specs.Standing.{next_of};
 ghost use Rattle.lf_stats.specs.Statistics.{accepts, issued};
+ghost use Rattle.lf_stats.specs.Tally.{block_by};
 
 use lf_logs::{LogRecords, Place};
 use lf_rules::{NoMemory, Shape};
@@ -27,6 +28,18 @@ fn no_blocks(alloc: Global) -> Result<Vec<Vec<u64>>, NoMemory>
     Ok(lists)
 }
 
+/// The block of the request that the event issues, where a block has so many bytes.
+fn block_issued(size: u32, event: &EventView<'_>) -> Option<u64>
+    requires { 0 < size }
+    ensures { result ≡ block_by size (event_of event.now) }
+{
+    match event {
+        EventView::Issue { address, .. } => Some(*address / u64::from(size)),
+        EventView::Masked { block, .. } => Some(u64::from(*block)),
+        _ => None,
+    }
+}
+
 /// For each port the blocks of its issues, in the order of the places.
 pub(crate) fn blocks_issued<L: LogRecords>(
     alloc: Global,
@@ -44,8 +57,7 @@ pub(crate) fn blocks_issued<L: LogRecords>(
     let mut room = RecordView::blank();
     for place in places {
         logs.lend(*place, &mut room);
-        if let EventView::Issue { address, .. } = room.event() {
-            let block = *address / u64::from(shape.block);
+        if let Some(block) = block_issued(shape.block, room.event()) {
             lists[usize::from(room.log())].push(block)?;
         }
     }

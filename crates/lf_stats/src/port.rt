@@ -17,7 +17,9 @@ fn note(waits: &mut [bool; TAGS], event: &EventView<'_>)
         ≡ waits_after tag (slice_index_or waits.old tag false) (event_of event.now) }
 {
     match event {
-        EventView::Issue { tag, .. } => waits[usize::from(*tag)] = true,
+        EventView::Issue { tag, .. } | EventView::Masked { tag, .. } => {
+            waits[usize::from(*tag)] = true;
+        }
         EventView::Reply { tag, .. } => waits[usize::from(*tag)] = false,
         _ => {}
     }

@@ -65,5 +65,5 @@ yes_is_legal laws shape bytes order memory logs trace parts is_order =
       run = run;
       sharing = laws.share shape (flat_memory memory) rs run;
       once = laws.once shape (flat_memory memory) rs run;
-      flat = laws.are_flat shape (flat_memory memory) rs run;
+      flat = laws.are_flat shape (flat_memory memory) rs fits run;
     }

@@ -18,6 +18,7 @@ use Rattle.lf_logs.specs.Reordering.{Reordering, CanKeep, first_with, header_of,
 use Rattle.lf_logs.specs.Tags.{PortView}
 use Rattle.lf_logs.proofs.Reordered.{first_with-number, first_with-push_other}
 use Rattle.lf_logs.proofs.GivenOut.{first_with-all}
+use Rattle.lf_replay.specs.AnyView.{shape_of}
 use Rattle.lf_replay.specs.Step.{StepView, IsForStep, IsStepAfter}
 use Rattle.lf_stats.specs.declared.bank_count.BankCount.{BankCount}
 use Rattle.lf_stats.specs.Tally.{IsCounted, IsSteady}
@@ -67,7 +68,7 @@ module _ (shape : Shape) (memory : FlatMemory) (bank : ℕ) (came gave : List Re
   pub judged_more : (r : Record) (new : BankJudge) → Some r ≡ first_with (length gave) came →
       HasOrdered new.order came (gave ++ r ∷ []) → new.order.bank ≡ old.order.bank
       → new.order.header ≡ old.order.header → new.step.bank ≡ old.step.bank
-      → new.step.state.shape ≡ old.step.state.shape
+      → shape_of new.step.state ≡ shape_of old.step.state
       → (r.number ≡ length gave → IsBankAt shape memory bank gave old.step old.outcome →
       IsBankAt shape memory bank (gave ++ r ∷ []) new.step new.outcome)
       → (IfSome old.count (IsCounted shape gave) → IfSome new.count (IsCounted shape (gave ++ r ∷ [])))
@@ -113,7 +114,7 @@ module _ (shape : Shape) (memory : FlatMemory) (bank : ℕ) (came gave : List Re
   pub judged_pass : (r : Record) (new : BankJudge) → Fits shape r → r.bank ≡ bank → r.number ≡ length gave →
       HasOrdered new.order (came ++ r ∷ []) (gave ++ r ∷ []) → new.order.bank ≡ old.order.bank
       → new.order.header ≡ old.order.header → new.step.bank ≡ old.step.bank
-      → new.step.state.shape ≡ old.step.state.shape
+      → shape_of new.step.state ≡ shape_of old.step.state
       → (r.number ≡ length gave → IsBankAt shape memory bank gave old.step old.outcome →
       IsBankAt shape memory bank (gave ++ r ∷ []) new.step new.outcome)
       → (IfSome old.count (IsCounted shape gave) → IfSome new.count (IsCounted shape (gave ++ r ∷ [])))

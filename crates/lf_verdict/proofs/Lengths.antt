@@ -87,7 +87,7 @@ length-record h r header fits =
     let le = block_at_most_64 h.block header.block_size in
     let event = fits.fits.event in
     let passed = judged_passed (fixed_checks h r.bank kind (fixed_bytes r.event))
-    (fixed_passes h r.bank r.event le event) in
+    (fixed_passes h r.bank r.event le event fits.replies) in
     omega (
       arith,
       length-append (u32_bytes r.number ++ fixed_bytes r.event) (data_of r.event),

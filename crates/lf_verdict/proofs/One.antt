@@ -237,12 +237,22 @@ one_field shape h fields.Factor fields.Ports a b = absurd (b a.0)
 one_field shape h fields.Factor fields.Banks a b = absurd (b.1 a.1)
 one_field shape h fields.Factor fields.Block a b = absurd (b.2 a.2)
 one_field shape h fields.Factor fields.Factor a b = refl
+one_field shape h fields.Ports fields.Below a b = absurd (a b.0)
+one_field shape h fields.Banks fields.Below a b = absurd (a.1 b.1)
+one_field shape h fields.Block fields.Below a b = absurd (a.2 b.2)
+one_field shape h fields.Factor fields.Below a b = absurd (a.3 b.3)
+one_field shape h fields.Below fields.Ports a b = absurd (b a.0)
+one_field shape h fields.Below fields.Banks a b = absurd (b.1 a.1)
+one_field shape h fields.Below fields.Block a b = absurd (b.2 a.2)
+one_field shape h fields.Below fields.Factor a b = absurd (b.3 a.3)
+one_field shape h fields.Below fields.Below a b = refl
 
 agrees_or_differs : (shape : Shape) (h : Header) (field : HeaderField) → Agrees shape h → Differs shape h field → ⊥
 agrees_or_differs shape h fields.Ports agrees differs = differs agrees.ports
 agrees_or_differs shape h fields.Banks agrees differs = differs.1 agrees.banks
 agrees_or_differs shape h fields.Block agrees differs = differs.2 agrees.block
 agrees_or_differs shape h fields.Factor agrees differs = differs.3 agrees.factor
+agrees_or_differs shape h fields.Below agrees differs = differs.4 agrees.below
 
 module _ (laws : Laws) (shape : Shape) (bytes : List ℕ) (fit : (i : ℕ) → slice_index bytes i < 256) where
   fault_or_trace : (fault : CodecFault) (h : Header) (memory : List (ℕ × Bytes)) (rs : List Record) →

@@ -7,7 +7,7 @@ use Rattle.lf_rules.specs.Fits.{Bytes}
 use Rattle.lf_rules.specs.Order.{IsOrder}
 use Rattle.lf_rules.specs.Ring.{skeletons_of}
 use Rattle.lf_rules.specs.Run.{of_log, Interleaves, KeepsNumbers, IsRun}
-use Rattle.lf_rules.specs.Copies.{IsCopyRun}
+use Rattle.lf_rules.specs.Chosen.{IsCopyRun}
 use Rattle.lf_codec.specs.declared.header.Header.{Header}
 use Rattle.lf_codec.specs.Trace.{IsTrace}
 use Rattle.lf_verdict.specs.declared.answer.Fault.{Fault}

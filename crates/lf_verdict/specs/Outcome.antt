@@ -19,7 +19,7 @@ use Rattle.lf_verdict.specs.declared.answer.Fault.TheVariants.{Missing, Double, 
 use Rattle.lf_verdict.specs.declared.answer.Refusal.TheVariants as refusals
 use Rattle.lf_verdict.specs.declared.answer.HeaderField.{HeaderField}
 use Rattle.lf_verdict.specs.declared.answer.HeaderField.TheVariants as fields
-use Rattle.lf_verdict.specs.Legal.{IsTraceFor}
+use Rattle.lf_verdict.specs.Legal.{below_of, IsTraceFor}
 use Rattle.lf_verdict.specs.Parts.{PartsRun, IsFirstNumber, IsPortFault, IsBankFault}
 
 -- ---- the outcome of a trace, the earlier case first
@@ -31,6 +31,8 @@ Differs shape h fields.Banks = (h.ports ≡ shape.ports) × ¬ (h.banks ≡ shap
 Differs shape h fields.Block = (h.ports ≡ shape.ports) × (h.banks ≡ shape.banks) × ¬ (h.block ≡ shape.block)
 Differs shape h fields.Factor = (h.ports ≡ shape.ports) × (h.banks ≡ shape.banks) × (h.block ≡ shape.block) ×
     ¬ (h.factor ≡ shape.factor)
+Differs shape h fields.Below = (h.ports ≡ shape.ports) × (h.banks ≡ shape.banks) × (h.block ≡ shape.block) ×
+    (h.factor ≡ shape.factor) × ¬ (below_of h ≡ shape.below)
 
 pub record IsOfAnother (shape : Shape) (bytes : List ℕ) (field : HeaderField) : Type 0 where
   pub header : Header

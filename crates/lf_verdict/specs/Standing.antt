@@ -17,6 +17,7 @@ use Rattle.lf_logs.specs.Reordering.{first_with, header_of, HasOrdered}
 use Rattle.lf_logs.specs.Tags.{PortView, PortStandsAfter}
 use Rattle.lf_join.specs.Join as joins
 use Rattle.lf_join.specs.Progress.{HasReached}
+use Rattle.lf_replay.specs.AnyView.{shape_of}
 use Rattle.lf_replay.specs.Bytes.{bank_part}
 use Rattle.lf_replay.specs.Step.{StepView, IsStepAfter}
 use Rattle.lf_stats.specs.Tally.{IsCounted}
@@ -61,7 +62,7 @@ pub record IsBankJudged (shape : Shape) (memory : FlatMemory) (bank : ℕ) (came
   pub order_of_bank : judge.order.bank ≡ bank
   pub of_header : judge.order.header ≡ Some (header_of shape)
   pub of_bank : judge.step.bank ≡ bank
-  pub of_shape : judge.step.state.shape ≡ shape
+  pub of_shape : shape_of judge.step.state ≡ shape
   pub judged : IsBankAt shape memory bank gave judge.step judge.outcome
   pub counted : IfSome judge.count (IsCounted shape gave)
 

@@ -23,6 +23,7 @@ field_text fields.Ports = codes "Ports"
 field_text fields.Banks = codes "Banks"
 field_text fields.Block = codes "Block"
 field_text fields.Factor = codes "Factor"
+field_text fields.Below = codes "Below"
 
 -- the logs of a ring, each after a comma
 abbrev pub more_logs_text : List Knot → List ℕ

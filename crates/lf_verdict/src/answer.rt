@@ -119,7 +119,7 @@ impl From<ConfigFault> for Refusal {
     }
 }
 
-/// The first number of the header that is not that of the shape.
+/// The first of the header that is not as the shape has it.
 #[derive(Clone, Copy, Debug, PartialEq, Eq)]
 pub enum HeaderField {
     Ports,
@@ -127,4 +127,6 @@ pub enum HeaderField {
     Block,
     /// First-level blocks in a block of level two.
     Factor,
+    /// What is below level one: a trace of version 4 is that of a cache by itself.
+    Below,
 }

@@ -4,14 +4,25 @@ ghost use Rattle.std.specs.Prelude.{◌≡◌, ℕ, List, length, IfSome, IfNone
 ghost use Rattle.lf_rules.specs.Fits.{Bytes};
 ghost use Rattle.lf_codec.specs.Trace.{FitsMemory};
 ghost use Rattle.lf_verdict.specs.Breaking.{first_offset};
-ghost use Rattle.lf_verdict.specs.Legal.{Agrees};
+ghost use Rattle.lf_verdict.specs.Legal.{Agrees, below_of};
 ghost use Rattle.lf_verdict.specs.Outcome.{Differs};
 
 use crate::answer::HeaderField;
 use lf_codec::Header;
-use lf_rules::Shape;
+use lf_rules::{Below, Shape};
 
-/// The first number of the header that is not that of the shape.
+/// What is below level one, by the version of the trace.
+fn below(header: Header) -> Below
+    ensures { result ≡ below_of header }
+{
+    if header.version == 4 {
+        Below::Outside
+    } else {
+        Below::LevelTwo
+    }
+}
+
+/// The first of the header that is not as the shape has it.
 pub fn differing(shape: &Shape, header: Header) -> Option<HeaderField>
     ensures some { IfSome result (Differs shape.now header) }
     ensures none { IfNone result (Agrees shape.now header) }
@@ -27,6 +38,9 @@ pub fn differing(shape: &Shape, header: Header) -> Option<HeaderField>
     }
     if u32::from(header.factor) != shape.factor {
         return Some(HeaderField::Factor);
+    }
+    if below(header) != shape.below {
+        return Some(HeaderField::Below);
     }
     None
 }

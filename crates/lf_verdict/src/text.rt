@@ -17,6 +17,7 @@ impl HeaderField {
             HeaderField::Banks => "Banks",
             HeaderField::Block => "Block",
             HeaderField::Factor => "Factor",
+            HeaderField::Below => "Below",
         }
     }
 }

@@ -5,7 +5,7 @@ ghost use Rattle.lf_rules.specs.InRange.{IsShape};
 
 use count_coverage::{Coverage, cover};
 use lf_logs::bank_order;
-use lf_rules::{Level, Logs, OrgShape, Shape};
+use lf_rules::{Below, Grain, Level, Logs, OrgShape, Shape};
 use std::alloc::Global;
 use std::test::Fail;
 use trace_samples::{logs, records};
@@ -37,6 +37,8 @@ fn shape() -> Shape
             ways: 2,
             organisation,
         },
+        below: Below::LevelTwo,
+        grain: Grain::Byte,
     }
 }
 

@@ -5,7 +5,7 @@ ghost use Rattle.lf_rules.specs.InRange.{IsShape};
 
 use count_usage::{Usage, UsageText, usage_of};
 use lf_logs::bank_order;
-use lf_rules::{Level, Logs, OrgShape, Shape};
+use lf_rules::{Below, Grain, Level, Logs, OrgShape, Shape};
 use std::alloc::Global;
 use std::test::Fail;
 use trace_samples::{logs, records};
@@ -35,6 +35,8 @@ fn shape() -> Shape
             ways: 1,
             organisation: OrgShape::Inverted,
         },
+        below: Below::LevelTwo,
+        grain: Grain::Byte,
     }
 }
 

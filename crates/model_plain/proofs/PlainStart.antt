@@ -18,6 +18,7 @@ pub slice_empty : (queues : List (List Request)) (lines1 : Lines) (lines2 : Wide
     → (let made : Slice = record {
       queue = queue_at queues;
       lines1 = lines1;
+      shared = [];
       lines2 = lines2;
       waiting = waiting;
       regs2 = regs2;
@@ -30,6 +31,7 @@ slice_empty queues lines1 lines2 waiting regs2 asked supplied ready a b c d e f 
     λ i. record {
       queue = q i;
       lines1 = b i;
+      shared = [];
       lines2 = c i;
       waiting = d i;
       regs2 = e i;

@@ -9,6 +9,7 @@ use Rattle.std.proofs.lemmas.Bool.{eqb-false}
 use Rattle.std.proofs.lemmas.List.{map-set, length-map}
 use Rattle.model_plain.specs.declared.busy.BusyTag.{BusyTag}
 use Rattle.model_plain.specs.declared.slice.PlainSlice.{PlainSlice}
+use Rattle.lf_rules.specs.declared.shape.Below.TheVariants.{LevelTwo}
 use Rattle.lf_rules.specs.declared.shape.Shape.{Shape}
 use Rattle.lf_rules.specs.declared.event.Record.{Record}
 use Rattle.lf_rules.specs.declared.rule.Rule.{Rule}
@@ -17,9 +18,11 @@ use Rattle.lf_rules.specs.declared.event.Event.TheVariants.{Issue, Fence}
 use Rattle.lf_rules.specs.Fits.{Fits, FitsBank}
 use Rattle.lf_rules.specs.State.{update, Slice, State, Local, empty_slice}
 use Rattle.lf_rules.specs.Table.{OfBoth, rules_of, carries, clauses, busy_after, memory_after}
+use Rattle.lf_rules.specs.Step.{step_clauses}
 use Rattle.lf_rules.specs.Run.{first_failing, state_after}
+use Rattle.lf_rules.proofs.Chosen.{two_clauses, two_state}
 use Rattle.bank_state.specs.Bytes.{flat_of}
-use Rattle.model_plain.specs.Plain.{busy_of, slice_of, slice_next, slices_of}
+use Rattle.model_plain.specs.Plain.{busy_of, slice_of, slice_next, slices_of, two_after}
 
 pub on_both : {X E A B C : Type 0} (r : Result X E) → OnOk r A → OnOk r B → (A → B → C) → OnOk r C
 on_both (Ok x) a b f = f a b
@@ -53,7 +56,7 @@ pub stepped : (shape : Shape) (blocks new_blocks : List (ℕ × List ℕ)) (busy
     → busy_of new_busy ≡ update (busy_of busy) item.log (busy_after (busy_of busy item.log) item.bank item.event)
     → slice_of new ≡ slice_next shape (flat_of blocks) (slice_of old) item.log item.event
     → flat_of new_blocks ≡ memory_after (flat_of blocks) (slice_of old) item.event
-    → made new_blocks new_busy (set xs at new) ≡ state_after shape (made blocks busy xs) item
+    → made new_blocks new_busy (set xs at new) ≡ two_after shape (made blocks busy xs) item
 stepped shape blocks new_blocks busy new_busy xs at old new item same inside is tags next now =
     let here = ap (slices_of xs) (sym same) ∙ slices_read xs at old (omega (arith, same, inside)) is in
     let memory_is = now ∙ ap (λ (s : Slice). memory_after (flat_of blocks) s item.event) (sym here) in
@@ -85,7 +88,7 @@ judged_fence shape now r result is told =
 pub fenced : (shape : Shape) (blocks : List (ℕ × List ℕ)) (busy new_busy : List BusyTag) (xs : List PlainSlice)
     (item : Record) → item.event ≡ Fence
     → busy_of new_busy ≡ update (busy_of busy) item.log (busy_after (busy_of busy item.log) item.bank item.event) →
-    made blocks new_busy xs ≡ state_after shape (made blocks busy xs) item
+    made blocks new_busy xs ≡ two_after shape (made blocks busy xs) item
 fenced shape blocks busy new_busy xs item is tags =
     let memory_is = ap (λ (e : Event). memory_after (flat_of blocks) (slices_of xs item.bank) e) (sym is) in
     let slices_are = fun_ext (same (slices_of xs) item.bank)
@@ -96,3 +99,13 @@ fenced shape blocks busy new_busy xs item is tags =
     same : (f : ℕ → Slice) (k n : ℕ) → f n ≡ update f k (f k) n
     same f k n = elim (k == n) as (λ b. (k == n) ≡ b → f n ≡ cond b (f k) (f n))
         [ true ↦ λ e. ap f (sym (eqb-true k n e)) | false ↦ λ e. refl ] refl
+
+-- ---- the step of a hierarchy with level two
+
+pub judged_step : (shape : Shape) (now : Local) (r : Record) (result : Option Rule) → shape.below ≡ LevelTwo →
+    result ≡ first_failing OfBoth (clauses shape now r) → result ≡ first_failing OfBoth (step_clauses shape now r)
+judged_step shape now r result two is = is ∙ ap (first_failing OfBoth) (sym (two_clauses shape now r two))
+
+pub state_step : (shape : Shape) (state new : State) (r : Record) → shape.below ≡ LevelTwo →
+    new ≡ two_after shape state r → new ≡ state_after shape state r
+state_step shape state new r two is = is ∙ sym (two_state shape state r two)

@@ -2,13 +2,15 @@
 use Rattle.std.specs.Prelude.{◌≡◌, ℕ, ◌<◌, true, ◌&&◌, ◌==◌, List, [], ◌∷◌, map, length, slice_index_or, Option, Some}
 use Rattle.std.specs.Prelude.{None, if◌then◌else◌}
 use Rattle.std.specs.List.{All}
+use Rattle.lf_rules.specs.declared.shape.Below.TheVariants.{LevelTwo}
 use Rattle.lf_rules.specs.declared.shape.Shape.{Shape}
 use Rattle.lf_rules.specs.declared.event.Event.{Event}
-use Rattle.lf_rules.specs.declared.event.Event.TheVariants.{Issue, Hit, Primary, Merge}
+use Rattle.lf_rules.specs.declared.event.Event.TheVariants.{Issue, Hit, Primary, Merge, Masked}
 use Rattle.lf_rules.specs.Address.{FlatMemory}
 use Rattle.lf_rules.specs.InRange.{IsShape}
-use Rattle.lf_rules.specs.State.{Request, Slice, State, empty_slice}
-use Rattle.lf_rules.specs.Table.{is_head, accepts, value_at, replies_at, slice_after}
+use Rattle.lf_rules.specs.declared.event.Record.{Record}
+use Rattle.lf_rules.specs.State.{Request, Slice, State, Local, empty_slice, seen_by, with_seen}
+use Rattle.lf_rules.specs.Table.{is_head, accepts, value_at, replies_at, slice_after, bank_effect, port_effect}
 use Rattle.bank_state.specs.Bytes.{flat_of}
 use Rattle.bank_state.specs.Queues.{queue_at}
 use Rattle.model_plain.specs.declared.busy.BusyTag.{BusyTag}
@@ -24,6 +26,7 @@ abbrev pub slice_of : PlainSlice → Slice
 slice_of slice = record {
   queue = queue_at slice.queues.items;
   lines1 = slice.lines1.entries;
+  shared = [];
   lines2 = slice.lines2.entries;
   waiting = slice.waiting.items;
   regs2 = slice.regs2.items;
@@ -46,9 +49,10 @@ FindsRequest queues log (Primary port tag register) = (port < length queues) ×
 FindsRequest queues log (Merge port tag register) = (port < length queues) × (is_head (queue_at queues port) tag ≡ true)
 FindsRequest queues log _ = Unit {0}
 
--- the tag of an issue is not busy
+-- the tag of an issue or a masked request is not busy
 abbrev pub IsTagFree : (ℕ → Option ℕ) → Event → Type 0
 IsTagFree busy (Issue op tag size address bytes) = busy tag ≡ None
+IsTagFree busy (Masked op tag block mask bytes) = busy tag ≡ None
 IsTagFree busy _ = Unit {0}
 
 -- the shape is in range, and there is a queue for each port
@@ -67,8 +71,15 @@ state_of machine = record {
       slices_of machine.slices.items;
 }
 
--- there is a slice for each bank
+-- the state of the whole system after a record, with level two
+abbrev pub two_after : Shape → State → Record → State
+two_after shape state r =
+    let now : Local = seen_by r.log r.bank state in
+    with_seen r.log r.bank state (port_effect (bank_effect shape now r) r)
+
+-- There is a slice for each bank, and level two below level one.
 pub record IsMachine (machine : Machine) : Type 0 where
+  pub two : machine.shape.below ≡ LevelTwo
   pub in_range : IsShape machine.shape
   pub banks : length machine.slices.items ≡ machine.shape.banks
   pub framed : All (IsSliceFramed machine.shape) machine.slices.items

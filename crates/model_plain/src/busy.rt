@@ -61,14 +61,14 @@ pub fn none_busy(tags: u32, busy: &[BusyTag], port: u8) -> bool
     true
 }
 
-/// An issue makes its tag busy, a reply frees it.
+/// An issue or a masked request makes its tag busy, a reply frees it.
 pub fn apply_busy(busy: &mut Vec<BusyTag>, item: &Record) -> Result<(), NoMemory>
     requires { IsTagFree (busy_of busy.old.items item.now.log) item.now.event }
     ensures { OnOk result (busy_of busy.new.items ≡ update (busy_of busy.old.items) item.now.log
         (busy_after (busy_of busy.old.items item.now.log) item.now.bank item.now.event)) }
 {
     match &item.event {
-        Event::Issue { tag, .. } => {
+        Event::Issue { tag, .. } | Event::Masked { tag, .. } => {
             let entry = BusyTag {
                 port: item.log,
                 tag: *tag,

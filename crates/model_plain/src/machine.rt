@@ -9,8 +9,11 @@ ghost use Rattle.lf_rules.specs.State.{Slice, empty_slice, opening, seen_by};
 ghost use Rattle.lf_rules.specs.Table.{OfBoth, rules_of, carries, clauses, memory_after};
 ghost use Rattle.lf_rules.specs.declared.event.Event.TheVariants as event;
 ghost use Rattle.lf_rules.specs.Run.{first_failing, state_after};
+ghost use Rattle.lf_rules.specs.Step.{step_clauses};
+ghost use Rattle.lf_rules.specs.declared.shape.Below.TheVariants as Below;
 ghost use Rattle.bank_state.specs.Bytes.{flat_of};
-ghost use Rattle.model_plain.specs.Plain.{busy_of, slice_of, slice_next, slices_of, state_of, FindsRequest};
+ghost use Rattle.model_plain.specs.Plain.{busy_of, slice_of, slice_next, slices_of, state_of, two_after};
+ghost use Rattle.model_plain.specs.Plain.{FindsRequest};
 ghost use Rattle.model_plain.specs.Plain.{IsSliceFramed, IsMachine};
 
 use crate::busy::{BusyTag, apply_busy, is_free, is_owed, none_busy};
@@ -125,6 +128,12 @@ fn judge_event(
             slice.judge_evict1(shape, agrees, *block, *mask)
         }
         Event::Fence => judge_fence(shape, busy, log),
+        // Only a cache by itself records these.
+        Event::Masked { .. }
+        | Event::Grant { .. }
+        | Event::Clean1 { .. }
+        | Event::Yield1 { .. }
+        | Event::Outside { .. } => Some(Rule::OutsideHeld),
         _ => judge_level_two(shape, memory, slice, item),
     }
 }
@@ -196,7 +205,12 @@ fn apply_event(
         Event::Stall { .. } => Ok(()),
         Event::Fill1 { block, .. } => slice.fill1(*block),
         Event::Evict1 { block, mask, .. } => slice.evict1(shape, *block, *mask),
-        Event::Fence => Ok(()),
+        Event::Fence
+        | Event::Masked { .. }
+        | Event::Grant { .. }
+        | Event::Clean1 { .. }
+        | Event::Yield1 { .. }
+        | Event::Outside { .. } => Ok(()),
         _ => apply_level_two(shape, slice, item),
     }
 }
@@ -218,7 +232,8 @@ fn new_slices(alloc: Global, shape: &Shape) -> Result<Vec<PlainSlice>, NoMemory>
 impl Machine {
     /// The machine over the memory that a trace names.
     pub fn new(alloc: Global, shape: &Shape, memory: &Memory) -> Result<Machine, NoMemory>
-        requires { IsShape shape.now }
+        requires in_range { IsShape shape.now }
+        requires two { shape.now.below ≡ Below.LevelTwo }
         ensures machine { IfOk result (λ machine. IsMachine machine) }
         ensures shape { IfOk result (λ machine. machine.shape ≡ shape.now) }
         ensures state { IfOk result (λ machine. state_of machine ≡ opening (flat_memory memory.now.items)) }
@@ -258,7 +273,7 @@ impl Machine {
         requires fits { Fits self.old.shape item.now }
         requires holds { first_failing OfBoth (clauses self.old.shape
             (seen_by item.now.log item.now.bank (state_of self.old)) item.now) ≡ None }
-        ensures state { OnOk result (state_of self.new ≡ state_after self.old.shape (state_of self.old) item.now) }
+        ensures state { OnOk result (state_of self.new ≡ two_after self.old.shape (state_of self.old) item.now) }
         ensures machine { OnOk result (IsMachine self.new) }
         ensures shape { self.new.shape ≡ self.old.shape }
         ensures failed { self.new.failed ≡ self.old.failed }
@@ -278,7 +293,7 @@ impl Machine {
         requires machine { self.old.failed ≡ false → IsMachine self.old }
         requires fits { Fits self.old.shape item.now }
         ensures rule { IfOk result (λ rule.
-            rule ≡ first_failing OfBoth (clauses self.old.shape
+            rule ≡ first_failing OfBoth (step_clauses self.old.shape
             (seen_by item.now.log item.now.bank (state_of self.old)) item.now)) }
         ensures state { IfOk result (λ rule. rule ≡ None → state_of self.new
             ≡ state_after self.old.shape (state_of self.old) item.now) }

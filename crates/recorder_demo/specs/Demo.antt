@@ -3,6 +3,8 @@ use Rattle.std.specs.Prelude.{◌≡◌, ℕ, ◌+◌, ◌*◌, ◌%◌, ◌<◌
 use Rattle.std.specs.Prelude.{length, map, filter, replicate}
 use Rattle.std.specs.Prelude.{slice_index_or}
 use Rattle.std.specs.List.{range_with_len, count_by}
+use Rattle.lf_rules.specs.declared.shape.Below.{Below}
+use Rattle.lf_rules.specs.declared.shape.Below.TheVariants.{LevelTwo, Outside}
 use Rattle.lf_rules.specs.declared.shape.Shape.{Shape}
 use Rattle.lf_rules.specs.declared.event.Op.{Op}
 use Rattle.lf_rules.specs.declared.event.Op.TheVariants.{Load, Store}
@@ -70,9 +72,14 @@ pub record IsRecording (shape : Shape) (logs : List (List Record)) : Type 0 wher
   pub common_order : HasCommonOrder logs
   pub ports : (port : ℕ) → port < shape.ports → IsPortLog shape port (slice_index_or logs port [])
 
+-- version 4 is that of a cache by itself
+abbrev pub version_of : Below → ℕ
+version_of LevelTwo = 3
+version_of Outside = 4
+
 abbrev pub header_of : Shape → Header
 header_of shape = record {
-  version = 3;
+  version = version_of shape.below;
   ports = shape.ports;
   banks = shape.banks;
   block = shape.block;

@@ -1,7 +1,8 @@
-//! The design: one bank of a two-level lockup-free cache, with the memory below it.
+//! The design: one bank of a two-level lockup-free cache, with the memory below it. In `alone` it is a cache by itself.
 
 ghost use Rattle.lf_rules.specs.InRange.{IsShape};
 
+use crate::alone::Sharing;
 use crate::line::{Line, Lines};
 use crate::places::Places;
 use crate::registers::{Registers, count_of};
@@ -25,18 +26,20 @@ struct Asked {
 /// second-level block is there where its blocks are.
 #[derive(Drop)]
 pub struct BankCache {
-    alloc: Global,
-    places: Places,
+    pub(crate) alloc: Global,
+    pub(crate) places: Places,
     /// One for each port.
     queues: Vec<Queue>,
-    one: Lines,
+    pub(crate) one: Lines,
     two: Lines,
-    memory: Lines,
-    misses: Registers<Request>,
+    pub(crate) memory: Lines,
+    pub(crate) misses: Registers<Request>,
     fetches: Registers<u32>,
     asked: Vec<Asked>,
     supplied: Vec<u32>,
-    replies: Vec<Reply>,
+    pub(crate) replies: Vec<Reply>,
+    /// What it shares with the outside, where it is a cache by itself.
+    pub(crate) alone: Sharing,
 }
 
 /// A line of zeros for each block of the bank that the ports ask for.
@@ -75,6 +78,7 @@ impl BankCache {
             asked: Vec::new(alloc),
             supplied: Vec::new(alloc),
             replies: Vec::new(alloc),
+            alone: Sharing::new(alloc),
         })
     }
 
@@ -97,6 +101,9 @@ impl BankCache {
     pub fn step(&mut self) -> Result<Option<Event>, AllocError> {
         if let Some(event) = self.accept()? {
             return Ok(Some(event));
+        }
+        if self.is_alone() {
+            return self.step_alone();
         }
         if let Some(event) = self.look_up()? {
             return Ok(Some(event));
@@ -134,12 +141,18 @@ impl BankCache {
         Ok(Some(Event::Fill1 { block, bytes }))
     }
 
-    /// Level one gives up a line. Level two takes over what was written to it.
-    fn evict_one(&mut self, block: u32) -> Result<Option<Event>, AllocError> {
+    /// Level one gives up a line. What is below takes over what was written to it.
+    pub(crate) fn evict_one(&mut self, block: u32) -> Result<Option<Event>, AllocError> {
         let Some(line) = self.one.take(block) else {
             return Ok(None);
         };
-        if let Some(below) = self.two.get_mut(block) {
+        let below = if self.is_alone() {
+            self.alone.forget(block);
+            self.memory.get_mut(block)
+        } else {
+            self.two.get_mut(block)
+        };
+        if let Some(below) = below {
             below.write_back(&line);
         }
         Ok(Some(Event::Evict1 {
@@ -209,7 +222,7 @@ impl BankCache {
     }
 
     /// The blocks of level one in the set of a block, the oldest line first.
-    fn same_set_at_one(&self, block: u32) -> Result<Vec<u32>, AllocError> {
+    pub(crate) fn same_set_at_one(&self, block: u32) -> Result<Vec<u32>, AllocError> {
         let set = self.places.set_at_one(block);
         let mut blocks = Vec::new(self.alloc);
         for line in &self.one.lines {
@@ -331,8 +344,7 @@ impl BankCache {
             block,
             ..
         } = request;
-        if let Some(line) = self.one.get_mut(block) {
-            self.replies.push(line.serve(self.alloc, &request)?)?;
+        if self.may_hit(&request) && self.serve(&request)? {
             return Ok(Some(Event::Hit { port, tag }));
         }
         let destination = self.places.destination_of(&request);
@@ -343,6 +355,13 @@ impl BankCache {
         self.misses.place(register, block, FIRST_WORD, request)?;
         if is_merge {
             return Ok(Some(Event::Merge {
+                port,
+                tag,
+                register,
+            }));
+        }
+        if self.is_alone() {
+            return Ok(Some(Event::Primary {
                 port,
                 tag,
                 register,

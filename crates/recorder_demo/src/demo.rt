@@ -2,7 +2,7 @@
 
 ghost use Rattle.std.specs.Prelude.{◌≡◌, All, Err, IfOk, map};
 ghost use Rattle.lf_rules.specs.InRange.{IsShape};
-ghost use Rattle.recorder_demo.specs.Demo.{IsDemo, IsRecording, IsTraceOf};
+ghost use Rattle.recorder_demo.specs.Demo.{version_of, IsDemo, IsRecording, IsTraceOf};
 ghost use Rattle.recorder_demo.specs.declared.fault.DemoFault.{DemoFault};
 ghost use Rattle.recorder_demo.specs.Threads.{IsNew, IsGivenBack, IsWholeSeat};
 
@@ -11,14 +11,21 @@ use crate::recording::{Recorded, Recording, work};
 use lf_codec::{Header, encode, fits_trace};
 use lf_logs::records;
 use lf_recorder::{CloseFault, Desk, LogSeat};
-use lf_rules::{Logs, Memory, Shape};
+use lf_rules::{Below, Logs, Memory, Shape};
 use std::alloc::Global;
 use std::sync::Wait;
 use std::thread;
 use std::thread::{Promise, Scope, Threads};
 
-/// The version of the traces that are written.
-const VERSION: u16 = 3;
+/// The version of the trace that is written.
+fn version_of(shape: &Shape) -> u16
+    ensures { result ≡ version_of shape.now.below }
+{
+    match shape.below {
+        Below::LevelTwo => 3,
+        Below::Outside => 4,
+    }
+}
 
 /// What the thread of a seat gives.
 #[derive(Clone, Copy)]
@@ -111,7 +118,8 @@ fn recorded<R: Threads + Wait + Sync>(
     requires { IsShape shape.now }
     ensures { IfOk result (λ logs. IsRecording shape.now (map (λ log. log.items) logs.items)) }
 {
-    let mut desk = Desk::new_version(alloc, u32::from(VERSION), shape.ports, shape.banks)?;
+    let version = u32::from(version_of(shape));
+    let mut desk = Desk::new_version(alloc, version, shape.ports, shape.banks)?;
     let Ok(seats) = desk.open() else {
         return Err(DemoFault::Memory);
     };
@@ -140,7 +148,7 @@ fn written(alloc: Global, shape: &Shape, logs: Logs) -> Result<(u32, Vec<u8>), D
 {
     let records = records(alloc, logs)?;
     let header = Header {
-        version: VERSION,
+        version: version_of(shape),
         ports: shape.ports as u8,
         banks: shape.banks as u8,
         block: shape.block as u16,

@@ -5,7 +5,7 @@ use crate::requests::{second_of, second_touched};
 use crate::same::is_same_event;
 use crate::wanted::Wanted;
 use arrayvec::ArrayVec;
-use lf_rules::{Block, Event, Memory, NoMemory, Record, Shape};
+use lf_rules::{Below, Block, Event, Memory, NoMemory, Record, Shape};
 use std::alloc::Global;
 use std::collections::BTreeMap;
 
@@ -33,9 +33,20 @@ pub(crate) fn touched(
     Ok(memory)
 }
 
-/// The place of the first fill of each second-level block into level two, among the records that stay.
+/// The block that a fill brings from below the cache, and its bytes: a second-level block, or that of level one in a
+/// cache by itself.
+fn brought<'a>(shape: &Shape, event: &'a Event) -> Option<(u32, &'a [u8])> {
+    match (shape.below, event) {
+        (Below::LevelTwo, Event::Fill2 { block, bytes }) => Some((*block, bytes)),
+        (Below::Outside, Event::Fill1 { block, bytes }) => Some((*block, bytes)),
+        _ => None,
+    }
+}
+
+/// The place of the first fill of each block from below the cache, among the records that stay.
 fn first_fills(
     alloc: Global,
+    shape: &Shape,
     records: &[Record],
     order: &[usize],
     stays: &[bool],
@@ -45,12 +56,10 @@ fn first_fills(
         let Some(item) = records.get(*place) else {
             continue;
         };
-        match &item.event {
-            Event::Fill2 { block, .. }
-                if stays.get(*place) == Some(&true) && first.get(block).is_none() => {
-                let _ = first.insert(*block, *place)?;
+        if let Some((block, _)) = brought(shape, &item.event) {
+            if stays.get(*place) == Some(&true) && first.get(&block).is_none() {
+                let _ = first.insert(block, *place)?;
             }
-            _ => {}
         }
     }
     Ok(first)
@@ -76,17 +85,15 @@ fn put(
 }
 
 /// The bytes that this fill has to carry: those that the rule expects of it, where it is the record that breaks one.
-fn filled<'a>(wanted: &'a Wanted, item: &'a Record) -> Option<&'a [u8]> {
-    let Event::Fill2 { bytes, .. } = &item.event else {
-        return None;
-    };
+fn filled<'a>(shape: &Shape, wanted: &'a Wanted, item: &'a Record) -> Option<&'a [u8]> {
+    let (_, bytes) = brought(shape, &item.event)?;
     match (&wanted.item, &wanted.due) {
         (Some(broken), Some(due)) if is_same_event(&broken.event, &item.event) => Some(due),
         _ => Some(bytes),
     }
 }
 
-/// The memory for the records that stay. Where the first fill of a second-level block is left out, the memory has what
+/// The memory for the records that stay. Where the first fill of a block from below is left out, the memory has what
 /// the first one has to carry that stays: what was written before is left out too.
 pub(crate) fn patched(
     alloc: Global,
@@ -98,8 +105,8 @@ pub(crate) fn patched(
 ) -> Result<Memory, NoMemory> {
     let records = best.records.as_slice();
     let all = vec![in alloc; true; records.len()]?;
-    let before = first_fills(alloc, records, order, &all)?;
-    let after = first_fills(alloc, records, order, stays)?;
+    let before = first_fills(alloc, shape, records, order, &all)?;
+    let after = first_fills(alloc, shape, records, order, stays)?;
     let mut blocks = BTreeMap::new(alloc);
     for (block, bytes) in &best.memory {
         let _ = blocks.insert(*block, bytes.clone()?)?;
@@ -111,7 +118,7 @@ pub(crate) fn patched(
         let Some(item) = records.get(*place) else {
             continue;
         };
-        if let Some(bytes) = filled(wanted, item) {
+        if let Some(bytes) = filled(shape, wanted, item) {
             put(shape, &mut blocks, *second, bytes)?;
         }
     }

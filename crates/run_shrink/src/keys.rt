@@ -159,7 +159,7 @@ impl Parts {
         let mut issue = None;
         for (place, other) in records.iter().enumerate() {
             match &other.event {
-                Event::Issue { tag, .. }
+                Event::Issue { tag, .. } | Event::Masked { tag, .. }
                     if other.log == item.log && tag == replied && place < broken => {
                     issue = Some(place);
                 }

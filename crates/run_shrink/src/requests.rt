@@ -39,7 +39,7 @@ fn is_load(records: &[Record], place: Option<usize>) -> bool {
         .and_then(|place| records.get(place))
         .map(|item| &item.event)
     {
-        Some(Event::Issue { op, .. }) => *op == Op::Load,
+        Some(Event::Issue { op, .. } | Event::Masked { op, .. }) => *op == Op::Load,
         _ => false,
     }
 }
@@ -48,6 +48,7 @@ fn is_load(records: &[Record], place: Option<usize>) -> bool {
 fn block_asked(shape: &Shape, records: &[Record], place: usize) -> Option<u64> {
     match &records.get(place)?.event {
         Event::Issue { address, .. } => block_at(shape, *address),
+        Event::Masked { block, .. } => Some(u64::from(*block)),
         _ => None,
     }
 }
@@ -66,7 +67,12 @@ pub(crate) fn second_touched(
         | Event::SecondHit { block }
         | Event::SecondPrimary { block, .. }
         | Event::SecondMerge { block, .. }
-        | Event::SecondStall { block } => second_of(shape, u64::from(*block)),
+        | Event::SecondStall { block }
+        | Event::Masked { block, .. }
+        | Event::Grant { block }
+        | Event::Clean1 { block, .. }
+        | Event::Yield1 { block }
+        | Event::Outside { block, .. } => second_of(shape, u64::from(*block)),
         Event::Issue { address, .. } => second_of(shape, block_at(shape, *address)?),
         _ => second_of(shape, block_asked(shape, records, owner?)?),
     }
@@ -132,7 +138,7 @@ impl Requests {
             return Ok(None);
         };
         match &item.event {
-            Event::Issue { tag, .. } => {
+            Event::Issue { tag, .. } | Event::Masked { tag, .. } => {
                 self.issued(item.log, *tag, place);
                 Ok(Some(place))
             }
@@ -155,11 +161,14 @@ impl Requests {
             | Event::Evict1 { block, .. }
             | Event::SecondHit { block }
             | Event::SecondMerge { block, .. }
-            | Event::SecondStall { block } => Ok(self.of_block(*block)),
+            | Event::SecondStall { block }
+            | Event::Grant { block }
+            | Event::Clean1 { block, .. }
+            | Event::Yield1 { block } => Ok(self.of_block(*block)),
             Event::Fill2 { block, .. } | Event::Evict2 { block, .. } => {
                 Ok(self.second.get(&u64::from(*block)).copied())
             }
-            Event::Fence => Ok(None),
+            Event::Fence | Event::Outside { .. } => Ok(None),
         }
     }
 }
@@ -308,7 +317,10 @@ impl Links {
         };
         match &item.event {
             Event::Evict1 { .. } | Event::Evict2 { .. } => {}
-            Event::Issue { .. } | Event::Reply { .. } | Event::Stall { .. } => {
+            Event::Issue { .. }
+            | Event::Masked { .. }
+            | Event::Reply { .. }
+            | Event::Stall { .. } => {
                 link.past = accepted.past;
                 link.is_read = accepted.is_read;
                 link.refill = accepted.refill;

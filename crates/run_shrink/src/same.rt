@@ -53,6 +53,28 @@ fn is_same_of_port(event: &Event, other: &Event) -> bool
                 bytes: b,
             },
         ) => tag == t && size == s && are_same_bytes(bytes, b),
+        (
+            Event::Masked {
+                op,
+                tag,
+                block,
+                mask,
+                bytes,
+            },
+            Event::Masked {
+                op: o,
+                tag: t,
+                block: x,
+                mask: m,
+                bytes: b,
+            },
+        ) => {
+            is_same_op(*op, *o)
+                && tag == t
+                && block == x
+                && mask.0 == m.0
+                && are_same_bytes(bytes, b)
+        }
         (Event::Fence, Event::Fence) => true,
         _ => false,
     }
@@ -142,6 +164,33 @@ fn is_same_of_level_two(event: &Event, other: &Event) -> bool
     }
 }
 
+/// Whether two events are one of a cache by itself.
+fn is_same_by_itself(event: &Event, other: &Event) -> bool
+    ensures { IsTrue result → event.now ≡ other.now }
+{
+    match (event, other) {
+        (Event::Grant { block }, Event::Grant { block: x }) => block == x,
+        (Event::Yield1 { block }, Event::Yield1 { block: x }) => block == x,
+        (
+            Event::Clean1 { block, mask, bytes },
+            Event::Clean1 {
+                block: x,
+                mask: m,
+                bytes: b,
+            },
+        ) => block == x && mask.0 == m.0 && are_same_bytes(bytes, b),
+        (
+            Event::Outside { block, mask, bytes },
+            Event::Outside {
+                block: x,
+                mask: m,
+                bytes: b,
+            },
+        ) => block == x && mask.0 == m.0 && are_same_bytes(bytes, b),
+        _ => false,
+    }
+}
+
 /// Whether two events are one.
 pub(crate) fn is_same_event(event: &Event, other: &Event) -> bool
     ensures { IsTrue result → event.now ≡ other.now }
@@ -149,4 +198,5 @@ pub(crate) fn is_same_event(event: &Event, other: &Event) -> bool
     is_same_of_port(event, other)
         || is_same_of_level_one(event, other)
         || is_same_of_level_two(event, other)
+        || is_same_by_itself(event, other)
 }

@@ -3,7 +3,7 @@
 use count_usage::{BankUse, LevelUse, Usage};
 use explain_json::{Answer, Told, explained_json, refused_json};
 use explain_why::Why;
-use lf_rules::{Level, OrgShape, Shape};
+use lf_rules::{Below, Grain, Level, OrgShape, Shape};
 use lf_verdict::Outcome;
 use std::process::Abort;
 use std::test::Fail;
@@ -24,6 +24,8 @@ const SHAPE: Shape = Shape {
         ways: 4,
         organisation: OrgShape::Inverted,
     },
+    below: Below::LevelTwo,
+    grain: Grain::Byte,
 };
 
 /// Fails where the answer has another text.

@@ -113,6 +113,12 @@ word_is_plain (events.Fill2 second bytes) = refl
 word_is_plain (events.Evict2 second masks bytes) = refl
 word_is_plain events.Fence = refl
 word_is_plain (events.SecondMerge block register) = refl
+word_is_plain (events.Masked Load tag block mask bytes) = refl
+word_is_plain (events.Masked Store tag block mask bytes) = refl
+word_is_plain (events.Grant block) = refl
+word_is_plain (events.Clean1 block mask bytes) = refl
+word_is_plain (events.Yield1 block) = refl
+word_is_plain (events.Outside block mask bytes) = refl
 
 place_is_plain : (bank number : ℕ) → is_plain (place_fields bank number) ≡ true
 place_is_plain bank number =
@@ -140,6 +146,11 @@ head_is_plain log bank number (events.Fill2 second bytes) = place_is_plain bank 
 head_is_plain log bank number (events.Evict2 second masks bytes) = place_is_plain bank number
 head_is_plain log bank number events.Fence = numbered (codes " port=") log refl
 head_is_plain log bank number (events.SecondMerge block register) = place_is_plain bank number
+head_is_plain log bank number (events.Masked op tag block mask bytes) = port_place_is_plain log bank number
+head_is_plain log bank number (events.Grant block) = place_is_plain bank number
+head_is_plain log bank number (events.Clean1 block mask bytes) = place_is_plain bank number
+head_is_plain log bank number (events.Yield1 block) = place_is_plain bank number
+head_is_plain log bank number (events.Outside block mask bytes) = place_is_plain bank number
 
 tag_is_plain : (tag : ℕ) → is_plain (tag_field tag) ≡ true
 tag_is_plain tag = numbered (codes " tag=") tag refl
@@ -172,6 +183,10 @@ masks_are_plain : (masks : List Mask) → is_plain (masks_text masks) ≡ true
 masks_are_plain [] = refl
 masks_are_plain (m ∷ masks) = join (mask_field m) (masks_text masks) (mask_is_plain m) (masks_are_plain masks)
 
+under_mask_is_plain : (block : ℕ) (mask : Mask) → is_plain (block_field block ++ mask_field mask) ≡ true
+under_mask_is_plain block mask = join (block_field block) (mask_field mask) (block_is_plain block)
+    (mask_is_plain mask)
+
 fields_are_plain : (event : Event) → is_plain (fields_text event) ≡ true
 fields_are_plain (events.Issue op tag size address bytes) =
     let tags = codes " tag=" ++ decimal tag in
@@ -187,8 +202,7 @@ fields_are_plain (events.Primary port tag register) = miss_is_plain port tag reg
 fields_are_plain (events.Merge port tag register) = miss_is_plain port tag register
 fields_are_plain (events.Stall port tag) = request_is_plain port tag
 fields_are_plain (events.Fill1 block bytes) = block_is_plain block
-fields_are_plain (events.Evict1 block mask bytes) = join (block_field block) (mask_field mask) (block_is_plain block)
-    (mask_is_plain mask)
+fields_are_plain (events.Evict1 block mask bytes) = under_mask_is_plain block mask
 fields_are_plain (events.SecondHit block) = block_is_plain block
 fields_are_plain (events.SecondPrimary block register) = second_is_plain block register
 fields_are_plain (events.SecondStall block) = block_is_plain block
@@ -197,6 +211,13 @@ fields_are_plain (events.Evict2 second masks bytes) =
     join (block_field second) (masks_text masks.items) (block_is_plain second) (masks_are_plain masks.items)
 fields_are_plain events.Fence = refl
 fields_are_plain (events.SecondMerge block register) = second_is_plain block register
+fields_are_plain (events.Masked op tag block mask bytes) =
+    join (tag_field tag ++ block_field block) (mask_field mask)
+    (join (tag_field tag) (block_field block) (tag_is_plain tag) (block_is_plain block)) (mask_is_plain mask)
+fields_are_plain (events.Grant block) = block_is_plain block
+fields_are_plain (events.Clean1 block mask bytes) = under_mask_is_plain block mask
+fields_are_plain (events.Yield1 block) = block_is_plain block
+fields_are_plain (events.Outside block mask bytes) = under_mask_is_plain block mask
 
 data_is_plain : (bytes : List ℕ) → is_plain (data_text bytes) ≡ true
 data_is_plain [] = refl

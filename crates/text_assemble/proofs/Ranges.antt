@@ -7,7 +7,7 @@ use Rattle.std.proofs.Math.Nat.{pow-le-pow_right, div-le_self}
 use Rattle.std.proofs.lemmas.Bool.{eqb-true}
 use Rattle.std.proofs.lemmas.Nat.{ones-le}
 use Rattle.lf_rules.specs.Address.{clean_mask}
-use Rattle.lf_rules.specs.Fits.{Bytes, is_size, is_block_size, is_factor, issue_len, masks_len, FitsEvent, FitsLog}
+use Rattle.lf_rules.specs.Fits.{Bytes, is_size, is_block_size, is_factor, issue_len, masks_len, FitsEvent, FitsEvict, FitsLog}
 use Rattle.lf_rules.specs.Fits.{FitsBank}
 use Rattle.lf_rules.specs.Fits.{IsData as IsDataOf}
 use Rattle.lf_rules.specs.declared.mask.Mask.{Mask}
@@ -58,12 +58,9 @@ issue_len_le : (op : Op) (size : ℕ) → is_size size ≡ true → issue_len op
 issue_len_le Load size h = omega arith
 issue_len_le Store size h = size_le size h
 
-reply_le : (size : ℕ) → (eqb size 0 || is_size size) ≡ true → size ≤ 8
-reply_le size h =
-    elim (either (eqb size 0) (is_size size) h) [
-      | inl none ↦ let e : size ≡ 0 = eqb-true size 0 none in omega arith
-      | inr some ↦ size_le size some
-    ]
+issue_len_within : (op : Op) (len : ℕ) → issue_len op len ≤ len
+issue_len_within Load len = omega arith
+issue_len_within Store len = omega arith
 
 below_64 : (size mask : ℕ) → size ≤ 64 → mask < 2 ^ size → mask < 2 ^ 64
 below_64 size mask small below =
@@ -98,6 +95,15 @@ data_in_range len most bytes carried le = record { few = omega (arith, carried.s
 times_le : (a b : ℕ) → a ≤ 4 → b ≤ 64 → a * b ≤ 256
 times_le a b al bl = grind arith
 
+under_mask_in_range : (banks size factor bank block : ℕ) (mask : Mask) (bytes : Bytes) → size ≤ 64 →
+    FitsEvict banks size factor bank block mask.0 bytes
+    → (block < 0x1_0000_0000) × IsWide mask × IsData 64 bytes
+under_mask_in_range banks size factor bank block mask bytes small fits = (
+  fits.of_bank.block_fits,
+  below_64 size mask.0 small fits.mask_fits,
+  data_in_range (count_ones mask.0) 64 bytes fits.carried (omega (arith, ones_le size mask.0 fits.mask_fits)),
+)
+
 event_in_range : (banks size factor bank : ℕ) (event : Event) → size ≤ 64 → factor ≤ 4 →
     FitsEvent banks size factor bank event → EventInRange event
 event_in_range banks size factor bank (events.Issue op tag len address bytes) small few fits = (
@@ -108,9 +114,9 @@ event_in_range banks size factor bank (events.Issue op tag len address bytes) sm
 )
 event_in_range banks size factor bank (events.Reply tag len bytes) small few fits = (
   fits.tag_fits,
-  omega (arith, reply_le len fits.size_is),
+  omega (arith, fits.size_fits, small),
   data_in_range len 64 bytes fits.carried
-      (omega (arith, reply_le len fits.size_is)),
+      (omega (arith, fits.size_fits, small)),
 )
 event_in_range banks size factor bank (events.Hit port tag) small few fits = (fits.port_fits, fits.tag_fits)
 event_in_range banks size factor bank (events.Primary port tag register) small few fits =
@@ -120,11 +126,8 @@ event_in_range banks size factor bank (events.Merge port tag register) small few
 event_in_range banks size factor bank (events.Stall port tag) small few fits = (fits.port_fits, fits.tag_fits)
 event_in_range banks size factor bank (events.Fill1 block bytes) small few fits =
     (fits.0.block_fits, data_in_range size 64 bytes fits.1 small)
-event_in_range banks size factor bank (events.Evict1 block mask bytes) small few fits = (
-  fits.of_bank.block_fits,
-  below_64 size mask.0 small fits.mask_fits,
-  data_in_range (count_ones mask.0) 64 bytes fits.carried (omega (arith, ones_le size mask.0 fits.mask_fits)),
-)
+event_in_range banks size factor bank (events.Evict1 block mask bytes) small few fits =
+    under_mask_in_range banks size factor bank block mask bytes small fits
 event_in_range banks size factor bank (events.SecondHit block) small few fits = fits.block_fits
 event_in_range banks size factor bank (events.SecondPrimary block register) small few fits = (fits.0.block_fits, fits.1)
 event_in_range banks size factor bank (events.SecondStall block) small few fits = fits.block_fits
@@ -142,6 +145,19 @@ event_in_range banks size factor bank (events.Evict2 second masks bytes) small f
 )
 event_in_range banks size factor bank events.Fence small few fits = tt
 event_in_range banks size factor bank (events.SecondMerge block register) small few fits = (fits.0.block_fits, fits.1)
+event_in_range banks size factor bank (events.Masked op tag block mask bytes) small few fits = (
+  fits.tag_fits,
+  fits.of_bank.block_fits,
+  below_64 size mask.0 small fits.mask_fits,
+  data_in_range (issue_len op (count_ones mask.0)) 64 bytes fits.carried
+      (omega (arith, issue_len_within op (count_ones mask.0), ones_le size mask.0 fits.mask_fits)),
+)
+event_in_range banks size factor bank (events.Grant block) small few fits = fits.block_fits
+event_in_range banks size factor bank (events.Clean1 block mask bytes) small few fits =
+    under_mask_in_range banks size factor bank block mask bytes small fits
+event_in_range banks size factor bank (events.Yield1 block) small few fits = fits.block_fits
+event_in_range banks size factor bank (events.Outside block mask bytes) small few fits =
+    under_mask_in_range banks size factor bank block mask bytes small fits.written
 
 port_stands : (ports banks log bank : ℕ) → ports ≤ 16 → banks ≤ 16 → bank < banks → log < ports → (log < 256) ×
     (bank < 256)
@@ -179,6 +195,16 @@ stands_in ports banks log bank number (events.Evict2 second masks bytes) pl bl b
     bank_stands ports banks log bank pl bl bf lf
 stands_in ports banks log bank number events.Fence pl bl bf lf = (omega (arith, lf), bf.0, bf.1)
 stands_in ports banks log bank number (events.SecondMerge block register) pl bl bf lf =
+    bank_stands ports banks log bank pl bl bf lf
+stands_in ports banks log bank number (events.Masked op tag block mask bytes) pl bl bf lf =
+    port_stands ports banks log bank pl bl bf lf
+stands_in ports banks log bank number (events.Grant block) pl bl bf lf =
+    bank_stands ports banks log bank pl bl bf lf
+stands_in ports banks log bank number (events.Clean1 block mask bytes) pl bl bf lf =
+    bank_stands ports banks log bank pl bl bf lf
+stands_in ports banks log bank number (events.Yield1 block) pl bl bf lf =
+    bank_stands ports banks log bank pl bl bf lf
+stands_in ports banks log bank number (events.Outside block mask bytes) pl bl bf lf =
     bank_stands ports banks log bank pl bl bf lf
 
 pub record_in_range : (h : Header) (r : Record) → FitsHeader h → FitsIn h r → RecordInRange h.ports r
@@ -232,3 +258,11 @@ event_passes h bank (events.Evict2 second masks bytes) fits =
     passes h (events.Evict2 second masks bytes) (eqb_same (length masks.items) h.factor fits.count) fits.carried.size
 event_passes h bank events.Fence fits = refl
 event_passes h bank (events.SecondMerge block register) fits = refl
+event_passes h bank (events.Masked op tag block mask bytes) fits =
+    passes h (events.Masked op tag block mask bytes) refl fits.carried.size
+event_passes h bank (events.Grant block) fits = refl
+event_passes h bank (events.Clean1 block mask bytes) fits =
+    passes h (events.Clean1 block mask bytes) refl fits.carried.size
+event_passes h bank (events.Yield1 block) fits = refl
+event_passes h bank (events.Outside block mask bytes) fits =
+    passes h (events.Outside block mask bytes) refl fits.written.carried.size

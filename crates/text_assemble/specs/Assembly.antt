@@ -53,6 +53,9 @@ carried_len h (events.Fill1 block bytes) = h.block
 carried_len h (events.Evict1 block mask bytes) = count_ones mask.0
 carried_len h (events.Fill2 second bytes) = h.factor * h.block
 carried_len h (events.Evict2 second masks bytes) = masks_len masks.items
+carried_len h (events.Masked op tag block mask bytes) = issue_len op (count_ones mask.0)
+carried_len h (events.Clean1 block mask bytes) = count_ones mask.0
+carried_len h (events.Outside block mask bytes) = count_ones mask.0
 carried_len h event = 0
 
 abbrev pub masks_fit : Header → Event → Bool

@@ -44,10 +44,17 @@ fn carried_len(header: &Header, event: &Event) -> u32
             size,
             ..
         } => u32::from(*size),
+        Event::Masked {
+            op: Op::Store,
+            mask,
+            ..
+        }
+        | Event::Evict1 { mask, .. }
+        | Event::Clean1 { mask, .. }
+        | Event::Outside { mask, .. } => mask.0.count_ones(),
         Event::Reply { size, .. } => u32::from(*size),
         Event::Fill1 { .. } => u32::from(header.block),
         Event::Fill2 { .. } => u32::from(header.factor) * u32::from(header.block),
-        Event::Evict1 { mask, .. } => mask.0.count_ones(),
         Event::Evict2 { masks, .. } => masks_len(masks),
         _ => 0,
     }
@@ -61,7 +68,10 @@ fn data_len(event: &Event) -> usize
         Event::Issue { bytes, .. }
         | Event::Reply { bytes, .. }
         | Event::Fill1 { bytes, .. }
-        | Event::Evict1 { bytes, .. } => bytes.len(),
+        | Event::Evict1 { bytes, .. }
+        | Event::Masked { bytes, .. }
+        | Event::Clean1 { bytes, .. }
+        | Event::Outside { bytes, .. } => bytes.len(),
         Event::Fill2 { bytes, .. } | Event::Evict2 { bytes, .. } => bytes.len(),
         _ => 0,
     }

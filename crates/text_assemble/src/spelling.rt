@@ -9,7 +9,7 @@ ghost use Rattle.text_assemble.specs.Assembly.{line_bytes};
 
 use byteorder::{ByteOrder, LittleEndian};
 use lf_codec::Header;
-use lf_rules::{Block, Event, Masks, Op, Record};
+use lf_rules::{Block, Event, Mask, Masks, Op, Record};
 use std::alloc::AllocError;
 use text_parse::Line;
 
@@ -88,6 +88,11 @@ fn code_of(event: &Event) -> u8
         Event::Evict2 { .. } => 13,
         Event::Fence => 14,
         Event::SecondMerge { .. } => 15,
+        Event::Masked { .. } => 16,
+        Event::Grant { .. } => 17,
+        Event::Clean1 { .. } => 18,
+        Event::Yield1 { .. } => 19,
+        Event::Outside { .. } => 20,
     }
 }
 
@@ -100,7 +105,7 @@ fn op_code(op: Op) -> u8
     }
 }
 
-/// The fixed part of an event that names a request, with the number behind it.
+/// Two bytes, which name a request, with the number behind them.
 fn put_request(out: &mut Vec<u8>, port: u8, tag: u8, n: u16) -> Result<(), AllocError>
     ensures { OnOk result (out.new.items ≡ out.old.items ++ (port ∷ tag ∷ u16_bytes n)) }
 {
@@ -123,6 +128,14 @@ fn put_masks(out: &mut Vec<u8>, masks: &Masks) -> Result<(), AllocError>
         put_u64(out, mask.0)?;
     }
     Ok(())
+}
+
+/// A block, with the mask of some of its bytes.
+fn put_masked(out: &mut Vec<u8>, block: u32, mask: Mask) -> Result<(), AllocError>
+    ensures { OnOk result (out.new.items ≡ out.old.items ++ (u32_bytes block ++ u64_bytes mask.0)) }
+{
+    put_u32(out, block)?;
+    put_u64(out, mask.0)
 }
 
 fn put_fixed(out: &mut Vec<u8>, event: &Event) -> Result<(), AllocError>
@@ -158,9 +171,20 @@ fn put_fixed(out: &mut Vec<u8>, event: &Event) -> Result<(), AllocError>
         Event::SecondStall { block } => put_u32(out, *block),
         Event::SecondPrimary { block, register } => put_second_miss(out, *block, *register),
         Event::SecondMerge { block, register } => put_second_miss(out, *block, *register),
-        Event::Evict1 { block, mask, .. } => {
-            put_u32(out, *block)?;
-            put_u64(out, mask.0)
+        Event::Evict1 { block, mask, .. } => put_masked(out, *block, *mask),
+        Event::Clean1 { block, mask, .. } => put_masked(out, *block, *mask),
+        Event::Outside { block, mask, .. } => put_masked(out, *block, *mask),
+        Event::Grant { block } => put_u32(out, *block),
+        Event::Yield1 { block } => put_u32(out, *block),
+        Event::Masked {
+            op,
+            tag,
+            block,
+            mask,
+            ..
+        } => {
+            put_request(out, op_code(*op), *tag, 0)?;
+            put_masked(out, *block, *mask)
         }
         Event::Evict2 { block, masks, .. } => {
             put_u32(out, *block)?;
@@ -177,7 +201,10 @@ fn put_data(out: &mut Vec<u8>, event: &Event) -> Result<(), AllocError>
         Event::Issue { bytes, .. }
         | Event::Reply { bytes, .. }
         | Event::Fill1 { bytes, .. }
-        | Event::Evict1 { bytes, .. } => out.extend_from_slice(bytes),
+        | Event::Evict1 { bytes, .. }
+        | Event::Masked { bytes, .. }
+        | Event::Clean1 { bytes, .. }
+        | Event::Outside { bytes, .. } => out.extend_from_slice(bytes),
         Event::Fill2 { bytes, .. } | Event::Evict2 { bytes, .. } => out.extend_from_slice(bytes),
         _ => Ok(()),
     }

@@ -7,7 +7,7 @@ use Rattle.lf_rules.specs.declared.event.Event.{Event}
 use Rattle.lf_rules.specs.declared.event.Event.TheVariants.{Issue, Reply, Fence, Hit, Primary, Merge, Stall, Fill1}
 use Rattle.lf_rules.specs.declared.event.Event.TheVariants.{Evict1}
 use Rattle.lf_rules.specs.declared.event.Event.TheVariants.{SecondHit, SecondPrimary, SecondMerge, SecondStall, Fill2}
-use Rattle.lf_rules.specs.declared.event.Event.TheVariants.{Evict2}
+use Rattle.lf_rules.specs.declared.event.Event.TheVariants.{Evict2, Masked, Grant, Clean1, Yield1, Outside}
 use Rattle.lf_rules.specs.declared.event.Record.{Record}
 use Rattle.lf_codec.specs.declared.header.Header.{Header}
 use Rattle.lf_codec.specs.Reading.{reading_of, header_of}
@@ -21,6 +21,7 @@ abbrev pub port_named : ℕ → Event → Option ℕ
 port_named log (Issue op tag size address bytes) = Some log
 port_named log (Reply tag size bytes) = Some log
 port_named log Fence = Some log
+port_named log (Masked op tag block mask bytes) = Some log
 port_named log (Hit port tag) = Some port
 port_named log (Primary port tag register) = Some port
 port_named log (Merge port tag register) = Some port
@@ -38,6 +39,7 @@ tag_named (Hit port tag) = Some tag
 tag_named (Primary port tag register) = Some tag
 tag_named (Merge port tag register) = Some tag
 tag_named (Stall port tag) = Some tag
+tag_named (Masked op tag block mask bytes) = Some tag
 tag_named _ = None
 
 -- an address lies in a block of this size, or a block in a second-level block of so many
@@ -53,6 +55,11 @@ names_block h block (SecondHit own) = own == block
 names_block h block (SecondPrimary own register) = own == block
 names_block h block (SecondMerge own register) = own == block
 names_block h block (SecondStall own) = own == block
+names_block h block (Masked op tag own mask bytes) = own == block
+names_block h block (Grant own) = own == block
+names_block h block (Clean1 own mask bytes) = own == block
+names_block h block (Yield1 own) = own == block
+names_block h block (Outside own mask bytes) = own == block
 names_block h block (Fill2 second bytes) = lies_in h.factor second block
 names_block h block (Evict2 second masks bytes) = lies_in h.factor second block
 names_block h block _ = false

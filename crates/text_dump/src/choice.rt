@@ -53,7 +53,9 @@ fn port_named(item: &Record) -> Option<u8>
     ensures { result ≡ port_named item.now.log item.now.event }
 {
     match &item.event {
-        Event::Issue { .. } | Event::Reply { .. } | Event::Fence => Some(item.log),
+        Event::Issue { .. } | Event::Reply { .. } | Event::Fence | Event::Masked { .. } => {
+            Some(item.log)
+        }
         Event::Hit { port, .. }
         | Event::Primary { port, .. }
         | Event::Merge { port, .. }
@@ -82,7 +84,8 @@ fn tag_named(event: &Event) -> Option<u8>
         | Event::Hit { tag, .. }
         | Event::Primary { tag, .. }
         | Event::Merge { tag, .. }
-        | Event::Stall { tag, .. } => Some(*tag),
+        | Event::Stall { tag, .. }
+        | Event::Masked { tag, .. } => Some(*tag),
         _ => None,
     }
 }
@@ -98,7 +101,12 @@ fn names_block(header: &Header, wanted: u32, event: &Event) -> bool
         | Event::SecondHit { block }
         | Event::SecondPrimary { block, .. }
         | Event::SecondMerge { block, .. }
-        | Event::SecondStall { block } => *block == wanted,
+        | Event::SecondStall { block }
+        | Event::Masked { block, .. }
+        | Event::Grant { block }
+        | Event::Clean1 { block, .. }
+        | Event::Yield1 { block }
+        | Event::Outside { block, .. } => *block == wanted,
         Event::Fill2 { block, .. } | Event::Evict2 { block, .. } => {
             lies_in(header.factor, *block, u64::from(wanted))
         }

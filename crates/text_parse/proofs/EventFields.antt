@@ -22,7 +22,8 @@ use Rattle.text_parse.specs.Fields.{is_field, masks_at}
 use Rattle.text_parse.specs.Events.{issue_at, reply_at, request_at, hit_at, stall_at, primary_at, merge_at, fill1_at}
 use Rattle.text_parse.specs.Events.{evict1_at}
 use Rattle.text_parse.specs.Events.{second_hit_at, second_stall_at, second_primary_at, second_merge_at, fill2_at}
-use Rattle.text_parse.specs.Events.{evict2_at, event_at}
+use Rattle.text_parse.specs.Events.{evict2_at, under_mask_at, clean1_at, outside_at, masked_at, grant_at, yield1_at}
+use Rattle.text_parse.specs.Events.{event_at}
 use Rattle.text_parse.specs.Lines.{is_behind, IsData, IsWide, EventInRange}
 use Rattle.text_parse.proofs.Pieces.{ends_word, decimal_again, hexadecimal_again, behind_ends, behind_is_over}
 use Rattle.text_parse.proofs.Pieces.{data_ends, carried_again}
@@ -139,18 +140,66 @@ fill1_again block bytes rest block_fits carried behind =
       carried_again 64 bytes.items rest carried.few carried.bytes_fit behind,
     ) refl
 
-evict1_again : (block : ℕ) (mask : Mask) (bytes : Bytes) (rest : List ℕ)
+under_mask_again : (block : ℕ) (mask : Mask) (bytes : Bytes) (rest : List ℕ)
     → block < 0x1_0000_0000 → IsWide mask → IsData 64 bytes → is_behind rest ≡ true
-    → evict1_at (block_field block ++ (mask_field mask ++ (data_text bytes.items ++ rest)))
-    ≡ Ok (events.Evict1 block mask bytes, rest)
-unfolding evict1_at
-evict1_again block mask bytes rest block_fits wide carried behind =
+    → under_mask_at (block_field block ++ (mask_field mask ++ (data_text bytes.items ++ rest)))
+    ≡ Ok (block, mask, bytes, rest)
+unfolding under_mask_at
+under_mask_again block mask bytes rest block_fits wide carried behind =
     let after = data_text bytes.items ++ rest in
     rw (
       decimal_again names.Block 0xffff_ffff block (mask_field mask ++ after) (omega arith) (omega arith) refl,
       hexadecimal_again names.Mask mask.0 after wide (data_ends bytes.items rest behind),
       carried_again 64 bytes.items rest carried.few carried.bytes_fit behind,
     ) refl
+
+evict1_again : (block : ℕ) (mask : Mask) (bytes : Bytes) (rest : List ℕ)
+    → block < 0x1_0000_0000 → IsWide mask → IsData 64 bytes → is_behind rest ≡ true
+    → evict1_at (block_field block ++ (mask_field mask ++ (data_text bytes.items ++ rest)))
+    ≡ Ok (events.Evict1 block mask bytes, rest)
+unfolding evict1_at
+evict1_again block mask bytes rest block_fits wide carried behind = rw (under_mask_again block mask bytes rest
+    block_fits wide carried behind) refl
+
+clean1_again : (block : ℕ) (mask : Mask) (bytes : Bytes) (rest : List ℕ)
+    → block < 0x1_0000_0000 → IsWide mask → IsData 64 bytes → is_behind rest ≡ true
+    → clean1_at (block_field block ++ (mask_field mask ++ (data_text bytes.items ++ rest)))
+    ≡ Ok (events.Clean1 block mask bytes, rest)
+unfolding clean1_at
+clean1_again block mask bytes rest block_fits wide carried behind = rw (under_mask_again block mask bytes rest
+    block_fits wide carried behind) refl
+
+outside_again : (block : ℕ) (mask : Mask) (bytes : Bytes) (rest : List ℕ)
+    → block < 0x1_0000_0000 → IsWide mask → IsData 64 bytes → is_behind rest ≡ true
+    → outside_at (block_field block ++ (mask_field mask ++ (data_text bytes.items ++ rest)))
+    ≡ Ok (events.Outside block mask bytes, rest)
+unfolding outside_at
+outside_again block mask bytes rest block_fits wide carried behind = rw (under_mask_again block mask bytes rest
+    block_fits wide carried behind) refl
+
+masked_again : (op : Op) (tag block : ℕ) (mask : Mask) (bytes : Bytes) (rest : List ℕ)
+    → tag < 256 → block < 0x1_0000_0000 → IsWide mask → IsData 64 bytes → is_behind rest ≡ true
+    → masked_at op (tag_field tag ++ (block_field block ++ (mask_field mask ++ (data_text bytes.items ++ rest))))
+    ≡ Ok (events.Masked op tag block mask bytes, rest)
+unfolding masked_at
+masked_again op tag block mask bytes rest tag_fits block_fits wide carried behind =
+    let after = block_field block ++ (mask_field mask ++ (data_text bytes.items ++ rest)) in
+    rw (
+      decimal_again names.Tag 0xff tag after (omega arith) (omega arith) refl,
+      under_mask_again block mask bytes rest block_fits wide carried behind,
+    ) refl
+
+grant_again : (block : ℕ) (rest : List ℕ) → block < 0x1_0000_0000 → ends_word rest ≡ true
+    → grant_at (block_field block ++ rest) ≡ Ok (events.Grant block, rest)
+unfolding grant_at
+grant_again block rest fits ends = rw (decimal_again names.Block 0xffff_ffff block rest (omega arith)
+    (omega arith) ends) refl
+
+yield1_again : (block : ℕ) (rest : List ℕ) → block < 0x1_0000_0000 → ends_word rest ≡ true
+    → yield1_at (block_field block ++ rest) ≡ Ok (events.Yield1 block, rest)
+unfolding yield1_at
+yield1_again block rest fits ends = rw (decimal_again names.Block 0xffff_ffff block rest (omega arith)
+    (omega arith) ends) refl
 
 second_hit_again : (block : ℕ) (rest : List ℕ) → block < 0x1_0000_0000 → ends_word rest ≡ true
     → second_hit_at (block_field block ++ rest) ≡ Ok (events.SecondHit block, rest)
@@ -232,6 +281,12 @@ kind_word (events.Fill2 second bytes) = words.Fill2
 kind_word (events.Evict2 second masks bytes) = words.Evict2
 kind_word events.Fence = words.Fence
 kind_word (events.SecondMerge block register) = words.SecondMerge
+kind_word (events.Masked Load tag block mask bytes) = words.MaskedLoad
+kind_word (events.Masked Store tag block mask bytes) = words.MaskedStore
+kind_word (events.Grant block) = words.Grant
+kind_word (events.Clean1 block mask bytes) = words.Clean1
+kind_word (events.Yield1 block) = words.Yield1
+kind_word (events.Outside block mask bytes) = words.Outside
 
 pub kind_word_text : (event : Event) → word_of event ≡ event_word_text (kind_word event)
 kind_word_text (events.Issue Load tag size address bytes) = refl
@@ -250,6 +305,12 @@ kind_word_text (events.Fill2 second bytes) = refl
 kind_word_text (events.Evict2 second masks bytes) = refl
 kind_word_text events.Fence = refl
 kind_word_text (events.SecondMerge block register) = refl
+kind_word_text (events.Masked Load tag block mask bytes) = refl
+kind_word_text (events.Masked Store tag block mask bytes) = refl
+kind_word_text (events.Grant block) = refl
+kind_word_text (events.Clean1 block mask bytes) = refl
+kind_word_text (events.Yield1 block) = refl
+kind_word_text (events.Outside block mask bytes) = refl
 
 two : (a b c : List ℕ) → (a ++ b) ++ c ≡ a ++ (b ++ c)
 two a b c = append_assoc a b c
@@ -302,3 +363,17 @@ event_again events.Fence rest fits behind = refl
 event_again (events.SecondMerge block register) rest fits behind =
     ap second_merge_at (two (block_field block) (register_field register) rest)
     ∙ second_merge_again block register rest fits.0 fits.1 (behind_ends rest behind)
+event_again (events.Masked Load tag block mask bytes) rest fits behind =
+    ap (masked_at Load) (three (tag_field tag) (block_field block) (mask_field mask) (data_text bytes.items ++ rest))
+    ∙ masked_again Load tag block mask bytes rest fits.0 fits.1 fits.2 fits.3 behind
+event_again (events.Masked Store tag block mask bytes) rest fits behind =
+    ap (masked_at Store) (three (tag_field tag) (block_field block) (mask_field mask) (data_text bytes.items ++ rest))
+    ∙ masked_again Store tag block mask bytes rest fits.0 fits.1 fits.2 fits.3 behind
+event_again (events.Grant block) rest fits behind = grant_again block rest fits (behind_ends rest behind)
+event_again (events.Clean1 block mask bytes) rest fits behind =
+    ap clean1_at (two (block_field block) (mask_field mask) (data_text bytes.items ++ rest))
+    ∙ clean1_again block mask bytes rest fits.0 fits.1 fits.2 behind
+event_again (events.Yield1 block) rest fits behind = yield1_again block rest fits (behind_ends rest behind)
+event_again (events.Outside block mask bytes) rest fits behind =
+    ap outside_at (two (block_field block) (mask_field mask) (data_text bytes.items ++ rest))
+    ∙ outside_again block mask bytes rest fits.0 fits.1 fits.2 behind

@@ -121,6 +121,18 @@ head_again ports defaults log bank number events.Fence rest stands fits ends =
     fence_head_again log rest stands.0 ends ∙ cc (stands.1, stands.2)
 head_again ports defaults log bank number (events.SecondMerge block register) rest stands fits ends =
     bank_again ports defaults log bank number rest stands.0 stands.1 fits ends
+head_again ports defaults log bank number (events.Masked Load tag block mask bytes) rest stands fits ends =
+    port_head_again defaults log bank number rest stands.0 stands.1 fits ends
+head_again ports defaults log bank number (events.Masked Store tag block mask bytes) rest stands fits ends =
+    port_head_again defaults log bank number rest stands.0 stands.1 fits ends
+head_again ports defaults log bank number (events.Grant block) rest stands fits ends =
+    bank_again ports defaults log bank number rest stands.0 stands.1 fits ends
+head_again ports defaults log bank number (events.Clean1 block mask bytes) rest stands fits ends =
+    bank_again ports defaults log bank number rest stands.0 stands.1 fits ends
+head_again ports defaults log bank number (events.Yield1 block) rest stands fits ends =
+    bank_again ports defaults log bank number rest stands.0 stands.1 fits ends
+head_again ports defaults log bank number (events.Outside block mask bytes) rest stands fits ends =
+    bank_again ports defaults log bank number rest stands.0 stands.1 fits ends
 
 -- no word goes on where an event's fields begin, or where a record's place begins
 fields_end : (event : Event) (rest : List ℕ) → ends_word rest ≡ true → ends_word (fields_text event ++ rest) ≡ true
@@ -139,6 +151,11 @@ fields_end (events.Fill2 second bytes) rest ends = refl
 fields_end (events.Evict2 second masks bytes) rest ends = refl
 fields_end events.Fence rest ends = ends
 fields_end (events.SecondMerge block register) rest ends = refl
+fields_end (events.Masked op tag block mask bytes) rest ends = refl
+fields_end (events.Grant block) rest ends = refl
+fields_end (events.Clean1 block mask bytes) rest ends = refl
+fields_end (events.Yield1 block) rest ends = refl
+fields_end (events.Outside block mask bytes) rest ends = refl
 
 head_ends : (log bank number : ℕ) (event : Event) (rest : List ℕ) →
     ends_word (head_of log bank number event ++ rest) ≡ true
@@ -157,6 +174,11 @@ head_ends log bank number (events.Fill2 second bytes) rest = refl
 head_ends log bank number (events.Evict2 second masks bytes) rest = refl
 head_ends log bank number events.Fence rest = refl
 head_ends log bank number (events.SecondMerge block register) rest = refl
+head_ends log bank number (events.Masked op tag block mask bytes) rest = refl
+head_ends log bank number (events.Grant block) rest = refl
+head_ends log bank number (events.Clean1 block mask bytes) rest = refl
+head_ends log bank number (events.Yield1 block) rest = refl
+head_ends log bank number (events.Outside block mask bytes) rest = refl
 
 record_again : (ports : ℕ) (defaults : Defaults) (r : Record) (rest : List ℕ) → RecordInRange ports r →
     is_behind rest ≡ true
@@ -291,6 +313,48 @@ begins (words.Event events_words.Fence) = record {
       λ text. refl;
 }
 begins (words.Event events_words.SecondMerge) = record {
+  all = refl;
+  named = refl;
+  blanks = λ text. refl;
+  goes_on =
+      λ text. refl;
+}
+begins (words.Event events_words.MaskedLoad) = record {
+  all = refl;
+  named = refl;
+  blanks = λ text. refl;
+  goes_on =
+      λ text. refl;
+}
+begins (words.Event events_words.MaskedStore) = record {
+  all = refl;
+  named = refl;
+  blanks = λ text. refl;
+  goes_on =
+      λ text. refl;
+}
+begins (words.Event events_words.Grant) = record {
+  all = refl;
+  named = refl;
+  blanks = λ text. refl;
+  goes_on =
+      λ text. refl;
+}
+begins (words.Event events_words.Clean1) = record {
+  all = refl;
+  named = refl;
+  blanks = λ text. refl;
+  goes_on =
+      λ text. refl;
+}
+begins (words.Event events_words.Yield1) = record {
+  all = refl;
+  named = refl;
+  blanks = λ text. refl;
+  goes_on =
+      λ text. refl;
+}
+begins (words.Event events_words.Outside) = record {
   all = refl;
   named = refl;
   blanks = λ text. refl;

@@ -1,5 +1,7 @@
 -- How the event records are read.
 use Rattle.std.specs.Prelude.{ℕ, ◌+◌, ◌-◌, List, slice_index, Result, Ok}
+use Rattle.lf_rules.specs.Fits.{Bytes}
+use Rattle.lf_rules.specs.declared.mask.Mask.{Mask}
 use Rattle.lf_rules.specs.declared.event.Op.{Op}
 use Rattle.lf_rules.specs.declared.event.Op.TheVariants.{Load, Store}
 use Rattle.lf_rules.specs.declared.event.Event.{Event}
@@ -65,12 +67,44 @@ fill1_at text = do
   bytes ← carried_at 64 block.1
   Ok (events.Fill1 block.0 (record { items = bytes.0 }), bytes.1)
 
-unfoldable pub evict1_at : List ℕ → Result (Event × List ℕ) Lack
-evict1_at text = do
+-- a block, a mask of it, and the bytes under that
+unfoldable pub under_mask_at : List ℕ → Result (ℕ × Mask × Bytes × List ℕ) Lack
+under_mask_at text = do
   block ← decimal_at names.Block 0xffff_ffff text
   mask ← hexadecimal_at names.Mask block.1
   bytes ← carried_at 64 mask.1
-  Ok (events.Evict1 block.0 (record { 0 = mask.0 }) (record { items = bytes.0 }), bytes.1)
+  Ok (block.0, record { 0 = mask.0 }, record { items = bytes.0 }, bytes.1)
+
+unfoldable pub evict1_at : List ℕ → Result (Event × List ℕ) Lack
+evict1_at text = do
+  line ← under_mask_at text
+  Ok (events.Evict1 line.0 line.1 line.2, line.3)
+
+unfoldable pub clean1_at : List ℕ → Result (Event × List ℕ) Lack
+clean1_at text = do
+  line ← under_mask_at text
+  Ok (events.Clean1 line.0 line.1 line.2, line.3)
+
+unfoldable pub outside_at : List ℕ → Result (Event × List ℕ) Lack
+outside_at text = do
+  line ← under_mask_at text
+  Ok (events.Outside line.0 line.1 line.2, line.3)
+
+unfoldable pub masked_at : Op → List ℕ → Result (Event × List ℕ) Lack
+masked_at op text = do
+  tag ← decimal_at names.Tag 0xff text
+  part ← under_mask_at tag.1
+  Ok (events.Masked op tag.0 part.0 part.1 part.2, part.3)
+
+unfoldable pub grant_at : List ℕ → Result (Event × List ℕ) Lack
+grant_at text = do
+  block ← decimal_at names.Block 0xffff_ffff text
+  Ok (events.Grant block.0, block.1)
+
+unfoldable pub yield1_at : List ℕ → Result (Event × List ℕ) Lack
+yield1_at text = do
+  block ← decimal_at names.Block 0xffff_ffff text
+  Ok (events.Yield1 block.0, block.1)
 
 unfoldable pub second_hit_at : List ℕ → Result (Event × List ℕ) Lack
 second_hit_at text = do
@@ -124,6 +158,12 @@ event_at words.Fill2 text = fill2_at text
 event_at words.Evict2 text = evict2_at text
 event_at words.Fence text = Ok (events.Fence, text)
 event_at words.SecondMerge text = second_merge_at text
+event_at words.MaskedLoad text = masked_at Load text
+event_at words.MaskedStore text = masked_at Store text
+event_at words.Grant text = grant_at text
+event_at words.Clean1 text = clean1_at text
+event_at words.Yield1 text = yield1_at text
+event_at words.Outside text = outside_at text
 
 -- ---- where a record stands: its log, its bank and its number there, and the text behind them. The defaults have
 -- the next number of each bank.
@@ -153,6 +193,8 @@ abbrev pub head_at : ℕ → Defaults → EventWord → List ℕ → Result (ℕ
 head_at ports defaults words.Load text = port_head_at defaults text
 head_at ports defaults words.Store text = port_head_at defaults text
 head_at ports defaults words.Reply text = port_head_at defaults text
+head_at ports defaults words.MaskedLoad text = port_head_at defaults text
+head_at ports defaults words.MaskedStore text = port_head_at defaults text
 head_at ports defaults words.Fence text = fence_head_at text
 head_at ports defaults word text = bank_head_at ports defaults text
 

@@ -3,7 +3,6 @@ use Rattle.std.specs.Prelude.{◌≡◌, ℕ, ◌+◌, ◌-◌, ◌^◌, ◌<◌
 use Rattle.std.specs.Prelude.{slice_index, codes, if◌then◌else◌, Option, Some, None, Result, Ok, Err}
 use Rattle.std.specs.List.{AllByRecursion}
 use Rattle.std.specs.Fmt.{decimal}
-use Rattle.std.specs.Str.{bytes_eq}
 use Rattle.lf_rules.specs.Fits.{Bytes}
 use Rattle.lf_rules.specs.declared.mask.Mask.{Mask}
 use Rattle.lf_rules.specs.declared.event.Event.{Event}
@@ -15,13 +14,12 @@ use Rattle.text_parse.specs.declared.fault.Lack.{Lack}
 use Rattle.text_parse.specs.declared.fault.Name.TheVariants as names
 use Rattle.text_parse.specs.declared.fault.Expected.TheVariants as due
 use Rattle.text_parse.specs.declared.fault.TextFault.{TextFault}
-use Rattle.text_parse.specs.declared.word.EventWord.TheVariants as kinds
 use Rattle.text_parse.specs.declared.word.Word.{Word}
 use Rattle.text_parse.specs.declared.word.Word.TheVariants as words
 use Rattle.text_parse.specs.declared.defaults.Defaults.{Defaults}
 use Rattle.text_parse.specs.declared.line.Line.{Line}
 use Rattle.text_parse.specs.declared.line.Line.TheVariants as lines
-use Rattle.text_parse.specs.Words.{◌>>=◌, is_blank, without_blanks, word_of, after_word, is_over, event_word_text}
+use Rattle.text_parse.specs.Words.{◌>>=◌, is_blank, without_blanks, word_of, after_word, is_over, kind_version}
 use Rattle.text_parse.specs.Words.{word_named}
 use Rattle.text_parse.specs.Defaults.{default_version}
 use Rattle.text_parse.specs.Fields.{lacks, decimal_at, version_at, bytes_at}
@@ -96,14 +94,13 @@ line_of ports defaults text = placed text (line_from ports defaults (without_bla
 
 -- ---- the version that a line asks for
 
--- the least version that has the kind of this word: the words of the others are in each version
-abbrev pub version_of : List ℕ → ℕ
-version_of word =
-    if bytes_eq (event_word_text kinds.Fence) word then 2 else if bytes_eq (event_word_text kinds.SecondMerge) word
-    then 3 else 1
+-- the least version that has the kind of this word: what begins no record is in each version
+abbrev pub version_of : Option Word → ℕ
+version_of (Some (words.Event word)) = kind_version word
+version_of _ = 1
 
 abbrev pub least_version : List ℕ → ℕ
-least_version text = version_of (word_of (without_blanks text))
+least_version text = version_of (word_named (word_of (without_blanks text)))
 
 -- ---- printing
 
@@ -149,11 +146,18 @@ EventInRange (events.Evict2 second masks bytes) =
     (second < 0x1_0000_0000) × (length masks.items ≤ 4) × AllByRecursion IsWide masks.items × IsData 256 bytes
 EventInRange events.Fence = Unit {0}
 EventInRange (events.SecondMerge block register) = (block < 0x1_0000_0000) × (register < 0x1_0000)
+EventInRange (events.Masked op tag block mask bytes) = (tag < 256) × (block < 0x1_0000_0000) × IsWide mask ×
+    IsData 64 bytes
+EventInRange (events.Grant block) = block < 0x1_0000_0000
+EventInRange (events.Clean1 block mask bytes) = (block < 0x1_0000_0000) × IsWide mask × IsData 64 bytes
+EventInRange (events.Yield1 block) = block < 0x1_0000_0000
+EventInRange (events.Outside block mask bytes) = (block < 0x1_0000_0000) × IsWide mask × IsData 64 bytes
 
 -- a port's record names its log, a fence names no bank and has no number, and a bank's record stands in the bank's log
 abbrev pub StandsIn : ℕ → ℕ → ℕ → ℕ → Event → Type 0
 StandsIn ports log bank number (events.Issue op tag size address bytes) = (log < 256) × (bank < 256)
 StandsIn ports log bank number (events.Reply tag size bytes) = (log < 256) × (bank < 256)
+StandsIn ports log bank number (events.Masked op tag block mask bytes) = (log < 256) × (bank < 256)
 StandsIn ports log bank number events.Fence = (log < 256) × (bank ≡ 255) × (number ≡ 0)
 StandsIn ports log bank number event = (log ≡ ports + bank) × (log < 256)
 

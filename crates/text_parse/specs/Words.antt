@@ -74,6 +74,24 @@ event_word_text events.Fill2 = codes "fill2"
 event_word_text events.Evict2 = codes "evict2"
 event_word_text events.Fence = codes "fence"
 event_word_text events.SecondMerge = codes "second_merge"
+event_word_text events.MaskedLoad = codes "masked_load"
+event_word_text events.MaskedStore = codes "masked_store"
+event_word_text events.Grant = codes "grant"
+event_word_text events.Clean1 = codes "clean1"
+event_word_text events.Yield1 = codes "yield1"
+event_word_text events.Outside = codes "outside"
+
+-- the least version that has the kind of this word
+abbrev pub kind_version : EventWord → ℕ
+kind_version events.Fence = 2
+kind_version events.SecondMerge = 3
+kind_version events.MaskedLoad = 4
+kind_version events.MaskedStore = 4
+kind_version events.Grant = 4
+kind_version events.Clean1 = 4
+kind_version events.Yield1 = 4
+kind_version events.Outside = 4
+kind_version _ = 1
 
 abbrev pub word_text : Word → List ℕ
 word_text words.Lfts = codes "lfts"
@@ -88,7 +106,9 @@ all_words =
     ∷ words.Event events.Primary ∷ words.Event events.Merge ∷ words.Event events.Stall ∷ words.Event events.Fill1
     ∷ words.Event events.Evict1 ∷ words.Event events.SecondHit ∷ words.Event events.SecondPrimary
     ∷ words.Event events.SecondStall ∷ words.Event events.Fill2 ∷ words.Event events.Evict2
-    ∷ words.Event events.Fence ∷ words.Event events.SecondMerge ∷ []
+    ∷ words.Event events.Fence ∷ words.Event events.SecondMerge ∷ words.Event events.MaskedLoad
+    ∷ words.Event events.MaskedStore ∷ words.Event events.Grant ∷ words.Event events.Clean1
+    ∷ words.Event events.Yield1 ∷ words.Event events.Outside ∷ []
 
 -- the one of these words that is spelled so
 abbrev pub named_in : List ℕ → List Word → Option Word

@@ -3,7 +3,8 @@
 ghost use Rattle.std.specs.Prelude.{◌≡◌, ◌-◌};
 ghost use Rattle.text_parse.specs.Words.{Gives};
 ghost use Rattle.text_parse.specs.Events.{issue_at, reply_at, request_at, hit_at, stall_at, primary_at, merge_at};
-ghost use Rattle.text_parse.specs.Events.{fill1_at, evict1_at};
+ghost use Rattle.text_parse.specs.Events.{fill1_at, under_mask_at, evict1_at, masked_at, grant_at, clean1_at};
+ghost use Rattle.text_parse.specs.Events.{yield1_at, outside_at};
 ghost use Rattle.text_parse.specs.Events.{second_hit_at, second_stall_at, second_primary_at, second_merge_at, fill2_at};
 ghost use Rattle.text_parse.specs.Events.{evict2_at, event_at};
 ghost use Rattle.text_parse.specs.Events.{port_head_at, fence_head_at, bank_head_at, head_at, record_at};
@@ -14,7 +15,7 @@ use crate::field::{
     byte, byte_up_to, carried, hexadecimal, masks, number_or, short, wide_carried, word,
 };
 use crate::word::EventWord;
-use lf_rules::{Event, Mask, NO_BANK, Op, Record};
+use lf_rules::{Block, Event, Mask, NO_BANK, Op, Record};
 
 #[tactic(auto, unfolding(crate::specs::Events::issue_at))]
 fn issue(op: Op, text: &[u8]) -> Result<(Event, &[u8]), Lack>
@@ -107,15 +108,71 @@ fn fill1(text: &[u8]) -> Result<(Event, &[u8]), Lack>
     Ok((Event::Fill1 { block, bytes }, text))
 }
 
-#[tactic(auto, unfolding(crate::specs::Events::evict1_at))]
-fn evict1(text: &[u8]) -> Result<(Event, &[u8]), Lack>
-    ensures { Gives (λ x. (x.0, x.1.now)) result (evict1_at text.now) }
+/// A block, a mask of it, and the bytes under that.
+#[tactic(auto, unfolding(crate::specs::Events::under_mask_at))]
+fn under_mask(text: &[u8]) -> Result<(u32, Mask, Block, &[u8]), Lack>
+    ensures { Gives (λ x. (x.0, x.1, x.2, x.3.now)) result (under_mask_at text.now) }
 {
     let (block, text) = word(Name::Block, text)?;
     let (bits, text) = hexadecimal(Name::Mask, text)?;
     let (bytes, text) = carried(text)?;
-    let mask = Mask(bits);
+    Ok((block, Mask(bits), bytes, text))
+}
+
+#[tactic(auto, unfolding(crate::specs::Events::evict1_at))]
+fn evict1(text: &[u8]) -> Result<(Event, &[u8]), Lack>
+    ensures { Gives (λ x. (x.0, x.1.now)) result (evict1_at text.now) }
+{
+    let (block, mask, bytes, text) = under_mask(text)?;
     Ok((Event::Evict1 { block, mask, bytes }, text))
+}
+
+#[tactic(auto, unfolding(crate::specs::Events::clean1_at))]
+fn clean1(text: &[u8]) -> Result<(Event, &[u8]), Lack>
+    ensures { Gives (λ x. (x.0, x.1.now)) result (clean1_at text.now) }
+{
+    let (block, mask, bytes, text) = under_mask(text)?;
+    Ok((Event::Clean1 { block, mask, bytes }, text))
+}
+
+#[tactic(auto, unfolding(crate::specs::Events::outside_at))]
+fn outside(text: &[u8]) -> Result<(Event, &[u8]), Lack>
+    ensures { Gives (λ x. (x.0, x.1.now)) result (outside_at text.now) }
+{
+    let (block, mask, bytes, text) = under_mask(text)?;
+    Ok((Event::Outside { block, mask, bytes }, text))
+}
+
+#[tactic(auto, unfolding(crate::specs::Events::masked_at))]
+fn masked(op: Op, text: &[u8]) -> Result<(Event, &[u8]), Lack>
+    ensures { Gives (λ x. (x.0, x.1.now)) result (masked_at op text.now) }
+{
+    let (tag, text) = byte(Name::Tag, text)?;
+    let (block, mask, bytes, text) = under_mask(text)?;
+    let event = Event::Masked {
+        op,
+        tag,
+        block,
+        mask,
+        bytes,
+    };
+    Ok((event, text))
+}
+
+#[tactic(auto, unfolding(crate::specs::Events::grant_at))]
+fn grant(text: &[u8]) -> Result<(Event, &[u8]), Lack>
+    ensures { Gives (λ x. (x.0, x.1.now)) result (grant_at text.now) }
+{
+    let (block, text) = word(Name::Block, text)?;
+    Ok((Event::Grant { block }, text))
+}
+
+#[tactic(auto, unfolding(crate::specs::Events::yield1_at))]
+fn yield1(text: &[u8]) -> Result<(Event, &[u8]), Lack>
+    ensures { Gives (λ x. (x.0, x.1.now)) result (yield1_at text.now) }
+{
+    let (block, text) = word(Name::Block, text)?;
+    Ok((Event::Yield1 { block }, text))
 }
 
 #[tactic(auto, unfolding(crate::specs::Events::second_hit_at))]
@@ -197,6 +254,12 @@ fn event(word: EventWord, text: &[u8]) -> Result<(Event, &[u8]), Lack>
         EventWord::Evict2 => evict2(text),
         EventWord::Fence => Ok((Event::Fence, text)),
         EventWord::SecondMerge => second_merge(text),
+        EventWord::MaskedLoad => masked(Op::Load, text),
+        EventWord::MaskedStore => masked(Op::Store, text),
+        EventWord::Grant => grant(text),
+        EventWord::Clean1 => clean1(text),
+        EventWord::Yield1 => yield1(text),
+        EventWord::Outside => outside(text),
     }
 }
 
@@ -242,7 +305,11 @@ fn head<'a>(
     ensures { Gives (λ x. (x.0, x.1, x.2, x.3.now)) result (head_at ports defaults.now word text.now) }
 {
     match word {
-        EventWord::Load | EventWord::Store | EventWord::Reply => port_head(defaults, text),
+        EventWord::Load
+        | EventWord::Store
+        | EventWord::Reply
+        | EventWord::MaskedLoad
+        | EventWord::MaskedStore => port_head(defaults, text),
         EventWord::Fence => fence_head(text),
         _ => bank_head(ports, defaults, text),
     }

@@ -12,7 +12,7 @@ use crate::event::record;
 use crate::fault::{Expected, Lack, Name, TextFault};
 use crate::field::{block_bytes, byte, short, version, word};
 use crate::scan::{is_over, split_word, without_blanks};
-use crate::word::{EventWord, Word};
+use crate::word::Word;
 use lf_codec::Header;
 use lf_rules::{Block, Record};
 
@@ -136,16 +136,13 @@ fn line_from(ports: u8, defaults: &Defaults, text: &[u8]) -> Result<Line, Lack>
     closed(line, rest)
 }
 
-/// The least version that has the kind of this word.
+/// The least version that has the kind of this word: what begins no record is in each version.
 fn version_of(word: &[u8]) -> u16
-    ensures { result ≡ version_of word.now }
+    ensures { result ≡ version_of (word_named word.now) }
 {
-    if EventWord::Fence.text().as_bytes() == word {
-        2
-    } else if EventWord::SecondMerge.text().as_bytes() == word {
-        3
-    } else {
-        1
+    match Word::named(word) {
+        Some(Word::Event(word)) => word.version(),
+        _ => 1,
     }
 }
 

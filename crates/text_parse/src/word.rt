@@ -1,9 +1,9 @@
 //! The words that begin a line.
 
 ghost use Rattle.std.specs.Prelude.{◌≡◌};
-ghost use Rattle.text_parse.specs.Words.{event_word_text, word_text, named_in, word_named};
+ghost use Rattle.text_parse.specs.Words.{event_word_text, kind_version, word_text, named_in, word_named};
 
-/// The word of a kind of event. A load and a store have their own.
+/// The word of a kind of event. A load and a store have their own, masked or not.
 #[derive(Clone, Copy, PartialEq, Eq)]
 pub(crate) enum EventWord {
     Load,
@@ -22,6 +22,12 @@ pub(crate) enum EventWord {
     Evict2,
     Fence,
     SecondMerge,
+    MaskedLoad,
+    MaskedStore,
+    Grant,
+    Clean1,
+    Yield1,
+    Outside,
 }
 
 /// The word that a line begins with.
@@ -54,12 +60,35 @@ impl EventWord {
             EventWord::Evict2 => "evict2",
             EventWord::Fence => "fence",
             EventWord::SecondMerge => "second_merge",
+            EventWord::MaskedLoad => "masked_load",
+            EventWord::MaskedStore => "masked_store",
+            EventWord::Grant => "grant",
+            EventWord::Clean1 => "clean1",
+            EventWord::Yield1 => "yield1",
+            EventWord::Outside => "outside",
+        }
+    }
+
+    /// The least version that has the kind.
+    pub(crate) fn version(self) -> u16
+        ensures { result ≡ kind_version self }
+    {
+        match self {
+            EventWord::Fence => 2,
+            EventWord::SecondMerge => 3,
+            EventWord::MaskedLoad
+            | EventWord::MaskedStore
+            | EventWord::Grant
+            | EventWord::Clean1
+            | EventWord::Yield1
+            | EventWord::Outside => 4,
+            _ => 1,
         }
     }
 }
 
 impl Word {
-    const ALL: [Word; 19] = [
+    const ALL: [Word; 25] = [
         Word::Lfts,
         Word::Memory,
         Word::End,
@@ -79,6 +108,12 @@ impl Word {
         Word::Event(EventWord::Evict2),
         Word::Event(EventWord::Fence),
         Word::Event(EventWord::SecondMerge),
+        Word::Event(EventWord::MaskedLoad),
+        Word::Event(EventWord::MaskedStore),
+        Word::Event(EventWord::Grant),
+        Word::Event(EventWord::Clean1),
+        Word::Event(EventWord::Yield1),
+        Word::Event(EventWord::Outside),
     ];
 
     fn text(self) -> &'static str

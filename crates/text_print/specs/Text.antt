@@ -36,6 +36,12 @@ word_of (events.Fill2 second bytes) = codes "fill2"
 word_of (events.Evict2 second masks bytes) = codes "evict2"
 word_of events.Fence = codes "fence"
 word_of (events.SecondMerge block register) = codes "second_merge"
+word_of (events.Masked Load tag block mask bytes) = codes "masked_load"
+word_of (events.Masked Store tag block mask bytes) = codes "masked_store"
+word_of (events.Grant block) = codes "grant"
+word_of (events.Clean1 block mask bytes) = codes "clean1"
+word_of (events.Yield1 block) = codes "yield1"
+word_of (events.Outside block mask bytes) = codes "outside"
 
 abbrev pub port_field : ℕ → List ℕ
 port_field port = codes " port=" ++ decimal port
@@ -46,6 +52,7 @@ place_fields bank number = codes " bank=" ++ decimal bank ++ codes " number=" ++
 -- a port's records name the port whose log they stand in, and all but fences name a bank and a number there
 abbrev pub head_of : ℕ → ℕ → ℕ → Event → List ℕ
 head_of log bank number (events.Issue op tag size address bytes) = port_field log ++ place_fields bank number
+head_of log bank number (events.Masked op tag block mask bytes) = port_field log ++ place_fields bank number
 head_of log bank number (events.Reply tag size bytes) = port_field log ++ place_fields bank number
 head_of log bank number events.Fence = port_field log
 head_of log bank number event = place_fields bank number
@@ -89,6 +96,11 @@ fields_text (events.Fill2 second bytes) = block_field second
 fields_text (events.Evict2 second masks bytes) = block_field second ++ masks_text masks.items
 fields_text events.Fence = []
 fields_text (events.SecondMerge block register) = block_field block ++ register_field register
+fields_text (events.Masked op tag block mask bytes) = tag_field tag ++ block_field block ++ mask_field mask
+fields_text (events.Grant block) = block_field block
+fields_text (events.Clean1 block mask bytes) = block_field block ++ mask_field mask
+fields_text (events.Yield1 block) = block_field block
+fields_text (events.Outside block mask bytes) = block_field block ++ mask_field mask
 
 -- the bytes, where there are any
 abbrev pub data_text : List ℕ → List ℕ

@@ -29,6 +29,12 @@ pub fn word_of(event: &Event) -> &'static str
         Event::Evict2 { .. } => "evict2",
         Event::Fence => "fence",
         Event::SecondMerge { .. } => "second_merge",
+        Event::Masked { op: Op::Load, .. } => "masked_load",
+        Event::Masked { op: Op::Store, .. } => "masked_store",
+        Event::Grant { .. } => "grant",
+        Event::Clean1 { .. } => "clean1",
+        Event::Yield1 { .. } => "yield1",
+        Event::Outside { .. } => "outside",
     }
 }
 
@@ -40,7 +46,10 @@ pub fn data_of(event: &Event) -> &[u8]
         Event::Issue { bytes, .. }
         | Event::Reply { bytes, .. }
         | Event::Fill1 { bytes, .. }
-        | Event::Evict1 { bytes, .. } => bytes,
+        | Event::Evict1 { bytes, .. }
+        | Event::Masked { bytes, .. }
+        | Event::Clean1 { bytes, .. }
+        | Event::Outside { bytes, .. } => bytes,
         Event::Fill2 { bytes, .. } | Event::Evict2 { bytes, .. } => bytes,
         _ => &[],
     }
@@ -61,7 +70,7 @@ impl fmt::Display for Head<'_> {
             event,
         } = self.0;
         match event {
-            Event::Issue { .. } | Event::Reply { .. } => {
+            Event::Issue { .. } | Event::Reply { .. } | Event::Masked { .. } => {
                 write!(f, " port={log} bank={bank} number={number}")
             }
             Event::Fence => write!(f, " port={log}"),
@@ -121,13 +130,23 @@ impl fmt::Display for Fields<'_> {
             Event::Fill1 { block, .. }
             | Event::SecondHit { block }
             | Event::SecondStall { block }
-            | Event::Fill2 { block, .. } => write!(f, " block={block}"),
+            | Event::Fill2 { block, .. }
+            | Event::Grant { block }
+            | Event::Yield1 { block } => write!(f, " block={block}"),
             Event::SecondPrimary { block, register } | Event::SecondMerge { block, register } => {
                 write!(f, " block={block} register={register}")
             }
-            Event::Evict1 { block, mask, .. } => {
+            Event::Evict1 { block, mask, .. }
+            | Event::Clean1 { block, mask, .. }
+            | Event::Outside { block, mask, .. } => {
                 let bits = Hexadecimal(mask.0);
                 write!(f, " block={block} mask={bits}")
+            }
+            Event::Masked {
+                tag, block, mask, ..
+            } => {
+                let bits = Hexadecimal(mask.0);
+                write!(f, " tag={tag} block={block} mask={bits}")
             }
             Event::Evict2 { block, masks, .. } => {
                 let masks = MaskFields(masks);

@@ -10,7 +10,7 @@ use explain_history::packed;
 use explain_lines::{Listing, Marks};
 use explain_rule::{Breach, Explained, Explanation, explain};
 use lf_codec::Packed;
-use lf_rules::{Level, OrgShape, Record, Rule, Shape, fits};
+use lf_rules::{Below, Grain, Level, OrgShape, Record, Rule, Shape, fits};
 use std::alloc::{AllocError, Global};
 use std::process::Abort;
 use std::test::Fail;
@@ -30,6 +30,8 @@ const SHAPE: Shape = Shape {
     factor: 1,
     level1: LEVEL,
     level2: LEVEL,
+    below: Below::LevelTwo,
+    grain: Grain::Byte,
 };
 
 /// Whether the records fit the shape.

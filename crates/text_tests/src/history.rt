@@ -1,7 +1,7 @@
 //! What came before a record.
 
 use explain_history::{
-    NoMemory, history_in_log, history_in_order, last_address, last_at_request, packed,
+    Asked, NoMemory, history_in_log, history_in_order, last_at_request, last_request, packed,
     places_in_order, record_at, room, waiting_request,
 };
 use lf_codec::{Packed, record_len};
@@ -122,7 +122,7 @@ fn records_at_the_block_of_a_request(rt: HostRuntime) -> Result<(), Fail> {
 fn address_of_the_last_request(rt: HostRuntime) -> Result<(), Fail> {
     let records = packed_of(rt.alloc(), &["L 0 8@0, L 0 8@8, L 1 8@0"])?;
     let places = [Some(0), Some(1), None, Some(2)];
-    assert_eq!(&rt; last_address(&records, &places, 0, 0), Some(8));
-    assert_eq!(&rt; last_address(&records, &places, 0, 2), None);
+    assert!(rt; last_request(&records, &places, 0, 0) == Some(Asked::From { address: 8 }));
+    assert!(rt; last_request(&records, &places, 0, 2) == None);
     Ok(())
 }

@@ -7,7 +7,7 @@ use explain_origins::{
     origins_standing, queues_are_of_the_rules, register_of,
 };
 use lf_codec::Packed;
-use lf_rules::{Level, OrgShape, Rule, Shape};
+use lf_rules::{Below, Grain, Level, OrgShape, Rule, Shape};
 use std::alloc::{AllocError, Global};
 use std::process::Abort;
 use std::test::Fail;
@@ -27,6 +27,8 @@ const SHAPE: Shape = Shape {
     factor: 1,
     level1: LEVEL,
     level2: LEVEL,
+    below: Below::LevelTwo,
+    grain: Grain::Byte,
 };
 
 /// The text of origins over records with these marks.

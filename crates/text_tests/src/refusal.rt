@@ -3,7 +3,7 @@
 use explain_refusal::{ConfigRefusal, FormatRefusal, HeaderRefusal, toml_fault};
 use lf_codec::{CodecCause, CodecFault, Header};
 use lf_config::{ConfigFault, Key, LevelKey, Part};
-use lf_rules::{Level, OrgShape, Shape};
+use lf_rules::{Below, Grain, Level, OrgShape, Shape};
 use std::alloc::Global;
 use std::process::Abort;
 use std::test::Fail;
@@ -66,6 +66,8 @@ const SHAPE: Shape = Shape {
     factor: 2,
     level1: LEVEL,
     level2: LEVEL,
+    below: Below::LevelTwo,
+    grain: Grain::Byte,
 };
 
 #[test]

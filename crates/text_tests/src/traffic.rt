@@ -1,5 +1,6 @@
 //! The blocks and the dirty lines of a few records.
 
+use lf_rules::Below;
 use std::test::Fail;
 use trace_samples::{C2, records_at};
 use wave_traffic::{Counts, Traffic, dirty_seconds_are_of_the_rules, flows_are_of_the_rules};
@@ -16,7 +17,7 @@ fn dirty_line(rt: HostRuntime) -> Result<(), Fail> {
         (3, 1, 0, "E1 5 ff"),
     ];
     let records = records_at(rt.alloc(), &C2, &rows)?;
-    let mut traffic = Traffic::new(rt.alloc(), 8, 2);
+    let mut traffic = Traffic::new(rt.alloc(), Below::LevelTwo, 8, 2);
     for item in &records {
         traffic.take(item)?;
     }

@@ -1,5 +1,6 @@
 //! A trace with its wave written out.
 
+use lf_rules::Below;
 use run_stream::Counted;
 use std::test::Fail;
 use wave_draw::{Drawing, Sought, order_of_no, view, yes_is_drawn_in_its_order};
@@ -40,6 +41,7 @@ const PORTS: View = View {
     level2_registers: 0,
     block: 8,
     factor: 1,
+    below: Below::LevelTwo,
     marker: None,
     first: None,
 };

@@ -2,7 +2,7 @@
 
 use explain_lines::Times;
 use lf_codec::Header;
-use lf_rules::{Event, Level, OrgShape, Record, Rule, Shape};
+use lf_rules::{Below, Event, Grain, Level, OrgShape, Record, Rule, Shape};
 use std::test::Fail;
 use wave_draw::Clock;
 use wave_signals::{Marker, SaveFile, View, Wave, Why};
@@ -26,6 +26,7 @@ const VIEW: View = View {
     level2_registers: 1,
     block: 8,
     factor: 1,
+    below: Below::LevelTwo,
     marker: Some(Marker {
         place: 2,
         why: Why::Rule(Rule::NotReady),
@@ -124,6 +125,8 @@ const SHAPE: Shape = Shape {
         ways: 1,
         organisation: OrgShape::Implicit { registers: 100 },
     },
+    below: Below::LevelTwo,
+    grain: Grain::Byte,
 };
 
 #[test]
@@ -137,6 +140,7 @@ fn signals_of_a_shape(rt: HostRuntime) -> Result<(), Fail> {
         level2_registers: 64,
         block: 8,
         factor: 2,
+        below: Below::LevelTwo,
         marker: None,
         first: None,
     };
@@ -163,6 +167,7 @@ const FENCES: View = View {
     level2_registers: 0,
     block: 8,
     factor: 1,
+    below: Below::LevelTwo,
     marker: None,
     first: None,
 };

@@ -16,9 +16,12 @@ const MOST_WORDS: usize = 4;
 /// | `R t=..` | reply: tag; that of a store is `R t` |
 /// | `H t`, `P t r`, `M t r`, `X t` | hit, primary miss, merge, stall: tag, register |
 /// | `SH b`, `SP b r`, `SM b r`, `SS b` | the same of level two: block, register |
-/// | `F1 b=..`, `F2 b=..` | fill: block; `F1 b` and `F2 b` are fills of zeros |
+/// | `F1 b=..`, `F2 b=..` | fill: block; zeros stand behind the bytes |
 /// | `E1 b m=..`, `E2 b m,m=..` | eviction: block, mask of each block of level one |
 /// | `F` | fence |
+/// | `ML t b m=..`, `MS t b m=..=..` | masked load or store: tag, block, mask |
+/// | `G b`, `Y b` | grant, and its end: block |
+/// | `C1 b m=..=..`, `O b m=..=..` | line made clean, write of the outside: block, mask |
 pub fn event(alloc: Global, shape: &Shape, text: &str) -> Result<Event, Fail> {
     let (front, bytes) = text.split_once('=').unwrap_or((text, ""));
     // `collect` would ask again for less where this room is refused.
@@ -27,6 +30,10 @@ pub fn event(alloc: Global, shape: &Shape, text: &str) -> Result<Event, Fail> {
         words.push(word)?;
     }
     let found = match of_request(words.as_slice(), bytes) {
+        None => of_mask(words.as_slice(), bytes),
+        found => found,
+    };
+    let found = match found {
         None => of_block(words.as_slice(), bytes, shape),
         found => found,
     };
@@ -85,6 +92,38 @@ fn reply(tag: u8, bytes: &str) -> Event {
     }
 }
 
+/// What names a mask of its own. The text is the mask, and the bytes behind a further `=`.
+fn of_mask(words: &[&str], text: &str) -> Option<Event> {
+    let (mask, bytes) = text.split_once('=').unwrap_or((text, ""));
+    let mask = Mask(u64::from_str_radix(mask, 16).ok()?);
+    let bytes = block(bytes);
+    match words {
+        ["ML", tag, block, "m"] => masked(Op::Load, tag, block, mask, bytes),
+        ["MS", tag, block, "m"] => masked(Op::Store, tag, block, mask, bytes),
+        ["C1", block, "m"] => Some(Event::Clean1 {
+            block: block.parse().ok()?,
+            mask,
+            bytes,
+        }),
+        ["O", block, "m"] => Some(Event::Outside {
+            block: block.parse().ok()?,
+            mask,
+            bytes,
+        }),
+        _ => None,
+    }
+}
+
+fn masked(op: Op, tag: &str, block: &str, mask: Mask, bytes: Block) -> Option<Event> {
+    Some(Event::Masked {
+        op,
+        tag: tag.parse().ok()?,
+        block: block.parse().ok()?,
+        mask,
+        bytes,
+    })
+}
+
 /// What names a block.
 fn of_block(words: &[&str], bytes: &str, shape: &Shape) -> Option<Event> {
     let [name, number, rest @ ..] = words else {
@@ -111,6 +150,8 @@ fn of_block_alone(name: &str, number: u32, bytes: &str, shape: &Shape) -> Option
         }),
         "SH" => Some(Event::SecondHit { block }),
         "SS" => Some(Event::SecondStall { block }),
+        "G" => Some(Event::Grant { block }),
+        "Y" => Some(Event::Yield1 { block }),
         _ => None,
     }
 }
@@ -141,23 +182,19 @@ fn of_block_and(name: &str, number: u32, more: &str, bytes: &str) -> Option<Even
     Some(event)
 }
 
-/// The bytes of a block, or so many zeros for no text.
+/// The bytes of a block: those of the text, and zeros behind them.
 fn contents(text: &str, size: u32) -> Block {
     let mut bytes = block(text);
-    if text.is_empty() {
-        for _ in 0..size {
-            let _ = bytes.try_push(0);
-        }
+    for _ in bytes.len()..size as usize {
+        let _ = bytes.try_push(0);
     }
     bytes
 }
 
 fn wide_contents(text: &str, size: u32) -> WideBlock {
     let mut bytes = wide_block(text);
-    if text.is_empty() {
-        for _ in 0..size {
-            let _ = bytes.try_push(0);
-        }
+    for _ in bytes.len()..size as usize {
+        let _ = bytes.try_push(0);
     }
     bytes
 }

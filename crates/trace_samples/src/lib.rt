@@ -19,7 +19,7 @@ pub use growth::{memory_ran_out, thread_refused};
 pub use hex::{block, bytes_of, masks};
 pub use lists::{logs, memory, record, records, records_at};
 pub use shapes::{
-    C1, C1_TEXT, C2, FOUR_BANKS, FOUR_BANKS_TEXT, IMPLICIT, INVERTED, INVERTED_BELOW,
+    C1, C1_TEXT, C2, C3, C3_TEXT, FOUR_BANKS, FOUR_BANKS_TEXT, IMPLICIT, INVERTED, INVERTED_BELOW,
     TWO_PORTS_TWO_BANKS, TWO_PORTS_TWO_BANKS_TEXT, TWO_REGISTERS,
 };
 pub use writing::{hits_and, trace, trace_of};

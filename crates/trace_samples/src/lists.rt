@@ -62,7 +62,7 @@ pub fn records(alloc: Global, shape: &Shape, parts: &[&str]) -> Result<Vec<Recor
 fn numbered(number: u32, event: Event) -> Record {
     let (log, bank, number) = match &event {
         Event::Fence => (0, NO_BANK, 0),
-        Event::Issue { .. } | Event::Reply { .. } => (0, 0, number),
+        Event::Issue { .. } | Event::Masked { .. } | Event::Reply { .. } => (0, 0, number),
         _ => (1, 0, number),
     };
     Record {

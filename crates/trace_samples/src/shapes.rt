@@ -1,6 +1,6 @@
 //! The hierarchies of the worked examples.
 
-use lf_rules::{Level, OrgShape, Shape};
+use lf_rules::{Below, Grain, Level, OrgShape, Shape};
 
 /// One port with four tags, one bank, blocks of 8 bytes. Each level has one set and one register; level
 /// one has one way and two entries, level two has two ways and one entry.
@@ -26,6 +26,8 @@ pub const C1: Shape = Shape {
             entries: 1,
         },
     },
+    below: Below::LevelTwo,
+    grain: Grain::Byte,
 };
 
 /// `C1` as a configuration.
@@ -158,3 +160,40 @@ pub const C2: Shape = Shape {
     },
     ..C1
 };
+
+/// Level one of a cache by itself, which has one set, one way, and two registers of four entries.
+const LEVEL_ALONE: Level = Level {
+    sets: 1,
+    ways: 1,
+    organisation: OrgShape::Explicit {
+        registers: 2,
+        entries: 4,
+    },
+};
+
+/// A cache by itself: one port with four tags, one bank, blocks of 16 bytes.
+pub const C3: Shape = Shape {
+    ports: 1,
+    banks: 1,
+    block: 16,
+    tags: 4,
+    factor: 1,
+    level1: LEVEL_ALONE,
+    level2: LEVEL_ALONE,
+    below: Below::Outside,
+    grain: Grain::Byte,
+};
+
+/// `C3` as a configuration.
+pub const C3_TEXT: &str = "ports = 1
+banks = 1
+block = 16
+tags = 4
+below = \"outside\"
+[level1]
+sets = 1
+ways = 1
+organisation = \"explicit\"
+registers = 2
+entries = 4
+";

@@ -3,7 +3,7 @@
 use crate::examples::{HIT, LOAD, LOADED};
 use crate::lists::records;
 use crate::shapes::C1;
-use lf_rules::{Event, Memory, Op, Record, Shape};
+use lf_rules::{Event, Mask, Memory, Op, Record, Shape};
 use std::alloc::{AllocError, Global};
 use std::test::Fail;
 
@@ -59,7 +59,7 @@ fn put_header(
     let [banks, ..] = shape.banks.to_le_bytes();
     let [block, ..] = shape.block.to_le_bytes();
     let [factor, ..] = shape.factor.to_le_bytes();
-    let factor = if version < 3 { 0 } else { factor };
+    let factor = if version == 3 { factor } else { 0 };
     bytes.extend_from_slice(b"LFTS")?;
     bytes.extend_from_slice(&[version, 0, ports, banks, block, 0, factor, 0])?;
     put_count(bytes, memory_count)
@@ -87,6 +87,11 @@ fn kind_of(event: &Event) -> u8 {
         Event::Evict2 { .. } => 13,
         Event::Fence => 14,
         Event::SecondMerge { .. } => 15,
+        Event::Masked { .. } => 16,
+        Event::Grant { .. } => 17,
+        Event::Clean1 { .. } => 18,
+        Event::Yield1 { .. } => 19,
+        Event::Outside { .. } => 20,
     }
 }
 
@@ -125,17 +130,36 @@ fn put_event(to: &mut Vec<u8>, event: &Event) -> Result<(), AllocError> {
             to.extend_from_slice(&[*port, *tag])?;
             to.extend_from_slice(&register.to_le_bytes())
         }
+        Event::Masked {
+            op,
+            tag,
+            block,
+            mask,
+            bytes,
+        } => {
+            let op = u8::from(*op == Op::Store);
+            to.extend_from_slice(&[op, *tag, 0, 0])?;
+            put_masked(to, *block, *mask, bytes)
+        }
         Event::Fence => Ok(()),
         _ => put_lines(to, event),
     }
 }
 
+/// A block, a mask, and the bytes under it.
+fn put_masked(to: &mut Vec<u8>, block: u32, mask: Mask, bytes: &[u8]) -> Result<(), AllocError> {
+    to.extend_from_slice(&block.to_le_bytes())?;
+    to.extend_from_slice(&mask.0.to_le_bytes())?;
+    to.extend_from_slice(bytes)
+}
+
 /// Writes what an event that names a block carries.
 fn put_lines(to: &mut Vec<u8>, event: &Event) -> Result<(), AllocError> {
     match event {
-        Event::SecondHit { block } | Event::SecondStall { block } => {
-            to.extend_from_slice(&block.to_le_bytes())
-        }
+        Event::SecondHit { block }
+        | Event::SecondStall { block }
+        | Event::Grant { block }
+        | Event::Yield1 { block } => to.extend_from_slice(&block.to_le_bytes()),
         Event::SecondPrimary { block, register } | Event::SecondMerge { block, register } => {
             to.extend_from_slice(&block.to_le_bytes())?;
             to.extend_from_slice(&register.to_le_bytes())?;
@@ -149,11 +173,9 @@ fn put_lines(to: &mut Vec<u8>, event: &Event) -> Result<(), AllocError> {
             to.extend_from_slice(&block.to_le_bytes())?;
             to.extend_from_slice(bytes)
         }
-        Event::Evict1 { block, mask, bytes } => {
-            to.extend_from_slice(&block.to_le_bytes())?;
-            to.extend_from_slice(&mask.0.to_le_bytes())?;
-            to.extend_from_slice(bytes)
-        }
+        Event::Evict1 { block, mask, bytes }
+        | Event::Clean1 { block, mask, bytes }
+        | Event::Outside { block, mask, bytes } => put_masked(to, *block, *mask, bytes),
         Event::Evict2 {
             block,
             masks,

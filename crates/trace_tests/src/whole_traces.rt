@@ -3,13 +3,13 @@
 use crate::reading::{
     ONE_BANK, assert_fault, assert_packed, assert_reads, encoded, feed, finish, pack,
 };
-use lf_codec::{CodecCause, CodecFault, Header, Packed, Reader, Told};
+use lf_codec::{CodecCause, CodecFault, Header, Packed, Reader, Told, fits_trace};
 use lf_rules::Memory;
 use std::alloc::Global;
 use std::process::Abort;
 use std::test::Fail;
 use trace_samples::{
-    C1, LOAD, LOAD_MISSES_BOTH_LEVELS, LOADED, bytes_of, memory, records, records_at,
+    C1, C3, LOAD, LOAD_MISSES_BOTH_LEVELS, LOADED, bytes_of, memory, records, records_at,
 };
 use trace_views::RecordView;
 
@@ -204,6 +204,72 @@ fn encode_and_skeletons(rt: HostRuntime) -> Result<(), Fail> {
     let records = records(rt.alloc(), &C1, &[LOAD, LOADED])?;
     let bytes = encoded(&rt, rt.alloc(), &ONE_BANK, &memory, &records)?;
     assert_eq!(rt; bytes.as_slice(), LOAD_MISSES_BOTH_LEVELS.as_slice());
+    Ok(())
+}
+
+/// One port and one bank of a cache by itself, with blocks of 16 bytes.
+const ALONE: Header = Header {
+    version: 4,
+    block: 16,
+    ..ONE_BANK
+};
+
+/// The bytes of these events as a trace of a cache by itself, which are read again.
+fn trace_alone(rt: &impl Abort, alloc: Global, parts: &[&str]) -> Result<Vec<u8>, Fail> {
+    let records = records(alloc, &C3, parts)?;
+    let trace = encoded(rt, alloc, &ALONE, &Vec::new(alloc), &records)?;
+    let mut reader = Reader::new(alloc);
+    feed(&mut reader, &trace)?;
+    assert_eq!(rt; finish(&mut reader)?, ALONE);
+    for item in &records {
+        assert!(rt; reader.take().as_ref() == Some(item));
+    }
+    Ok(trace)
+}
+
+/// Fails where the trace with this byte at this place has another fault than this.
+fn assert_fault_with(
+    rt: &impl Abort,
+    alloc: Global,
+    trace: &[u8],
+    place: usize,
+    byte: u8,
+    fault: (CodecCause, u64),
+) -> Result<(), Fail> {
+    let mut bytes = Vec::new(alloc);
+    bytes.extend_from_slice(trace)?;
+    *bytes.get_mut(place).ok_or("there is no such byte")? = byte;
+    let (cause, offset) = fault;
+    assert_fault(rt, alloc, &bytes, cause, offset);
+    Ok(())
+}
+
+#[test]
+fn one_load_by_itself_by_reader(rt: HostRuntime) -> Result<(), Fail> {
+    let trace = trace_alone(&rt, rt.alloc(), &["L 0 8@0, P 0 0, F1 0", LOADED])?;
+    let header = bytes_of(rt.alloc(), "4c46545304000101 1000000000000000")?;
+    assert_eq!(rt; trace.get(..16), Some(header.as_slice()));
+    assert_eq!(rt; trace.len(), 104);
+    let second = (CodecCause::Kind, 36);
+    assert_fault_with(&rt, rt.alloc(), &trace, 36, 0x0a, second)?;
+    let factor = (CodecCause::Reserved, 0);
+    assert_fault_with(&rt, rt.alloc(), &trace, 10, 1, factor)
+}
+
+#[test]
+fn masked_requests_by_reader(rt: HostRuntime) -> Result<(), Fail> {
+    let store = "MS 0 0 m=8001=aabb, P 0 0, ML 1 0 m=ffff, M 1 0, F1 0, R 0";
+    let loaded = "R 1=aa0000000000000000000000000000bb";
+    let trace = trace_alone(&rt, rt.alloc(), &[store, loaded])?;
+    // The store has its operation at 24, a zero at 26 and 27, and its mask from 32 on.
+    let mask = (CodecCause::MaskRange, 16);
+    assert_fault_with(&rt, rt.alloc(), &trace, 34, 0x01, mask)?;
+    let op = (CodecCause::Op, 16);
+    assert_fault_with(&rt, rt.alloc(), &trace, 24, 0x02, op)?;
+    let zero = (CodecCause::Reserved, 16);
+    assert_fault_with(&rt, rt.alloc(), &trace, 27, 0x01, zero)?;
+    let none = records(rt.alloc(), &C3, &["ML 0 0 m=0000"])?;
+    assert!(rt; !fits_trace(&ALONE, &Vec::new(rt.alloc()), &none));
     Ok(())
 }
 

@@ -36,6 +36,11 @@ event_of (views.Fill2 block bytes) = events.Fill2 block (record { items = bytes.
 event_of (views.Evict2 block masks bytes) = events.Evict2 block (masks_of masks) (record { items = bytes.now })
 event_of views.Fence = events.Fence
 event_of (views.SecondMerge block register) = events.SecondMerge block register
+event_of (views.Masked op tag block mask bytes) = events.Masked op tag block mask (record { items = bytes.now })
+event_of (views.Grant block) = events.Grant block
+event_of (views.Clean1 block mask bytes) = events.Clean1 block mask (record { items = bytes.now })
+event_of (views.Yield1 block) = events.Yield1 block
+event_of (views.Outside block mask bytes) = events.Outside block mask (record { items = bytes.now })
 
 -- a `Record` has room for the bytes and the masks of the event
 abbrev pub CanBeKept : Event → Type 0
@@ -45,4 +50,7 @@ CanBeKept (events.Fill1 block bytes) = length bytes.items ≤ 64
 CanBeKept (events.Evict1 block mask bytes) = length bytes.items ≤ 64
 CanBeKept (events.Fill2 block bytes) = length bytes.items ≤ 256
 CanBeKept (events.Evict2 block masks bytes) = (length masks.items ≤ 4) × (length bytes.items ≤ 256)
+CanBeKept (events.Masked op tag block mask bytes) = length bytes.items ≤ 64
+CanBeKept (events.Clean1 block mask bytes) = length bytes.items ≤ 64
+CanBeKept (events.Outside block mask bytes) = length bytes.items ≤ 64
 CanBeKept event = Unit {0}

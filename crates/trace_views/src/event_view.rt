@@ -72,6 +72,29 @@ pub enum EventView<'a> {
         block: u32,
         register: u16,
     },
+    Masked {
+        op: Op,
+        tag: u8,
+        block: u32,
+        mask: Mask,
+        bytes: &'a [u8],
+    },
+    Grant {
+        block: u32,
+    },
+    Clean1 {
+        block: u32,
+        mask: Mask,
+        bytes: &'a [u8],
+    },
+    Yield1 {
+        block: u32,
+    },
+    Outside {
+        block: u32,
+        mask: Mask,
+        bytes: &'a [u8],
+    },
 }
 
 /// Lends an event that is kept.
@@ -156,6 +179,31 @@ pub(crate) fn lend_event(event: &Event) -> EventView<'_>
         Event::SecondMerge { block, register } => EventView::SecondMerge {
             block: *block,
             register: *register,
+        },
+        Event::Masked {
+            op,
+            tag,
+            block,
+            mask,
+            bytes,
+        } => EventView::Masked {
+            op: *op,
+            tag: *tag,
+            block: *block,
+            mask: *mask,
+            bytes: bytes.as_slice(),
+        },
+        Event::Grant { block } => EventView::Grant { block: *block },
+        Event::Clean1 { block, mask, bytes } => EventView::Clean1 {
+            block: *block,
+            mask: *mask,
+            bytes: bytes.as_slice(),
+        },
+        Event::Yield1 { block } => EventView::Yield1 { block: *block },
+        Event::Outside { block, mask, bytes } => EventView::Outside {
+            block: *block,
+            mask: *mask,
+            bytes: bytes.as_slice(),
         },
     }
 }
@@ -251,5 +299,30 @@ pub(crate) fn copy_event(event: &EventView<'_>) -> Event
         },
         EventView::Fence => Event::Fence,
         EventView::SecondMerge { block, register } => Event::SecondMerge { block, register },
+        EventView::Masked {
+            op,
+            tag,
+            block,
+            mask,
+            bytes,
+        } => Event::Masked {
+            op,
+            tag,
+            block,
+            mask,
+            bytes: block_of(bytes),
+        },
+        EventView::Grant { block } => Event::Grant { block },
+        EventView::Clean1 { block, mask, bytes } => Event::Clean1 {
+            block,
+            mask,
+            bytes: block_of(bytes),
+        },
+        EventView::Yield1 { block } => Event::Yield1 { block },
+        EventView::Outside { block, mask, bytes } => Event::Outside {
+            block,
+            mask,
+            bytes: block_of(bytes),
+        },
     }
 }

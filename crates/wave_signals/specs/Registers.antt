@@ -86,6 +86,7 @@ level1_after size busy bank (events.Primary port tag register) held =
 level1_after size busy bank (events.Merge port tag register) held =
     joined_for (block_requested size busy port tag) bank register held
 level1_after size busy bank (events.Fill1 block bytes) held = filled bank block held
+level1_after size busy bank (events.Grant block) held = filled bank block held
 level1_after size busy bank event held = held
 
 -- those of level two, which hold second-level blocks

@@ -1,5 +1,5 @@
 -- The wave of a trace: what each record changes. A record's place is the number of records that stand before it.
-use Rattle.std.specs.Prelude.{ℕ, ◌+◌, ◌-◌, ◌^◌, min, max, ◌==◌, ◌&&◌, ◌||◌, not, Bool, true, false, List, []}
+use Rattle.std.specs.Prelude.{ℕ, ◌+◌, ◌-◌, ◌*◌, ◌^◌, min, max, ◌==◌, ◌&&◌, ◌||◌, not, Bool, true, false, List, []}
 use Rattle.std.specs.Prelude.{◌∷◌, ◌++◌, codes, nat_le, if◌then◌else◌, Option, Some, None, filter, count_by, flat_map}
 use Rattle.std.specs.Fmt.{decimal}
 use Rattle.std.specs.List.{range_with_len}
@@ -7,6 +7,8 @@ use Rattle.lf_rules.specs.Text.{rule_text}
 use Rattle.lf_rules.specs.declared.event.Event.{Event}
 use Rattle.lf_rules.specs.declared.event.Event.TheVariants as events
 use Rattle.lf_rules.specs.declared.event.Record.{Record}
+use Rattle.lf_rules.specs.declared.shape.Below.{Below}
+use Rattle.lf_rules.specs.Step.{by_below}
 use Rattle.text_print.specs.Text.{word_of}
 use Rattle.wave_traffic.specs.declared.counts.Counts.{Counts}
 use Rattle.wave_traffic.specs.Flow.{Flows, flow_at, counts_of, flows_after, no_flow}
@@ -34,15 +36,20 @@ use Rattle.wave_signals.specs.Times.{told_time}
 abbrev pub is_other : ℕ → ℕ → BusyTag → Bool
 is_other port tag b = not (b.port == port) || not (b.tag == tag)
 
-abbrev pub busy_by : Event → ℕ → List BusyTag → List BusyTag
-busy_by (events.Issue op tag size address bytes) port busy =
+abbrev pub busy_with : ℕ → ℕ → ℕ → List BusyTag → List BusyTag
+busy_with port tag address busy =
     filter (is_other port tag) busy ++ (record { port = port; tag = tag; address = address }) ∷ []
-busy_by (events.Reply tag size bytes) port busy = filter (is_other port tag) busy
-busy_by _ port busy = busy
+
+-- a masked request asks for bytes of its block, which has so many
+abbrev pub busy_by : ℕ → Event → ℕ → List BusyTag → List BusyTag
+busy_by block_size (events.Issue op tag size address bytes) port busy = busy_with port tag address busy
+busy_by block_size (events.Masked op tag block mask bytes) port busy = busy_with port tag (block * block_size) busy
+busy_by block_size (events.Reply tag size bytes) port busy = filter (is_other port tag) busy
+busy_by block_size _ port busy = busy
 
 -- the busy tags after a record
-abbrev pub busy_after : List BusyTag → Record → List BusyTag
-busy_after busy r = busy_by r.event r.log busy
+abbrev pub busy_after : ℕ → List BusyTag → Record → List BusyTag
+busy_after block_size busy r = busy_by block_size r.event r.log busy
 
 -- how many tags of the port are busy
 abbrev pub outstanding : List BusyTag → ℕ → ℕ
@@ -55,17 +62,25 @@ abbrev pub event_signal : ℕ → ℕ → Event → Signal
 event_signal log bank (events.Issue op tag size address bytes) = signals.PortEvent log
 event_signal log bank (events.Reply tag size bytes) = signals.PortEvent log
 event_signal log bank events.Fence = signals.PortEvent log
+event_signal log bank (events.Masked op tag block mask bytes) = signals.PortEvent log
 event_signal log bank event = signals.BankEvent bank
 
--- what a port's record names, its tag, and how many of the port's tags are busy then
-abbrev pub port_changes : ℕ → ℕ → ℕ → Event → List ℕ
-port_changes tags busy port (events.Issue op tag size address bytes) =
+-- a request for the bytes at an address: its tag, the address, and that the tag is busy
+abbrev pub issued_changes : ℕ → ℕ → ℕ → ℕ → List ℕ
+issued_changes tags port tag address =
     number_change tag (signals.PortTag port) ++ (number_change address (signals.Address port)
-    ++ (busy_change tags true port tag ++ number_change busy (signals.Outstanding port)))
-port_changes tags busy port (events.Reply tag size bytes) =
+    ++ busy_change tags true port tag)
+
+-- what a port's record names, its tag, and how many of the port's tags are busy then
+abbrev pub port_changes : ℕ → ℕ → ℕ → ℕ → Event → List ℕ
+port_changes block_size tags busy port (events.Issue op tag size address bytes) =
+    issued_changes tags port tag address ++ number_change busy (signals.Outstanding port)
+port_changes block_size tags busy port (events.Masked op tag block mask bytes) =
+    issued_changes tags port tag (block * block_size) ++ number_change busy (signals.Outstanding port)
+port_changes block_size tags busy port (events.Reply tag size bytes) =
     number_change tag (signals.PortTag port) ++ (busy_change tags false port tag
     ++ number_change busy (signals.Outstanding port))
-port_changes tags busy port event = []
+port_changes block_size tags busy port event = []
 
 -- the block of a request, where it is known
 abbrev pub block_change : ℕ → Option ℕ → List ℕ
@@ -96,13 +111,19 @@ bank_changes size busy bank (events.SecondHit block) = number_change block (sign
 bank_changes size busy bank (events.SecondStall block) = number_change block (signals.Block bank)
 bank_changes size busy bank (events.Fill2 second bytes) = number_change second (signals.Block bank)
 bank_changes size busy bank (events.Evict2 second masks bytes) = number_change second (signals.Block bank)
+bank_changes size busy bank (events.Grant block) = number_change block (signals.Block bank)
+bank_changes size busy bank (events.Clean1 block mask bytes) = number_change block (signals.Block bank)
+bank_changes size busy bank (events.Yield1 block) = number_change block (signals.Block bank)
+bank_changes size busy bank (events.Outside block mask bytes) = number_change block (signals.Block bank)
 bank_changes size busy bank event = []
 
 abbrev pub named_by : View → List BusyTag → ℕ → ℕ → ℕ → Event → List ℕ
 named_by view busy log bank number (events.Issue op tag size address bytes) =
-    port_changes view.tags (outstanding busy log) log (events.Issue op tag size address bytes)
+    port_changes view.block view.tags (outstanding busy log) log (events.Issue op tag size address bytes)
+named_by view busy log bank number (events.Masked op tag block mask bytes) =
+    port_changes view.block view.tags (outstanding busy log) log (events.Masked op tag block mask bytes)
 named_by view busy log bank number (events.Reply tag size bytes) =
-    port_changes view.tags (outstanding busy log) log (events.Reply tag size bytes)
+    port_changes view.block view.tags (outstanding busy log) log (events.Reply tag size bytes)
 named_by view busy log bank number events.Fence = []
 named_by view busy log bank number event =
     number_change number (signals.Number bank) ++ bank_changes view.block busy bank event
@@ -125,6 +146,8 @@ freed_registers registers level bank block held = flat_map (freed_by registers l
 -- the registers that a fill frees, of those that are held before it
 abbrev pub fill_changes : View → List HeldRegister → List HeldRegister → ℕ → Event → List ℕ
 fill_changes view level1 level2 bank (events.Fill1 block bytes) =
+    freed_registers view.level1_registers levels.One bank block level1
+fill_changes view level1 level2 bank (events.Grant block) =
     freed_registers view.level1_registers levels.One bank block level1
 fill_changes view level1 level2 bank (events.Fill2 second bytes) =
     freed_registers view.level2_registers levels.Two bank second level2
@@ -150,6 +173,7 @@ register_changes view level1 level2 bank (events.Primary port tag register) =
 register_changes view level1 level2 bank (events.Merge port tag register) =
     miss_changes view.level1_registers levels.One level1 bank register
 register_changes view level1 level2 bank (events.Fill1 block bytes) = count_change levels.One level1 bank
+register_changes view level1 level2 bank (events.Grant block) = count_change levels.One level1 bank
 register_changes view level1 level2 bank (events.SecondPrimary block register) =
     miss_changes view.level2_registers levels.Two level2 bank register
 register_changes view level1 level2 bank (events.SecondMerge block register) =
@@ -187,6 +211,19 @@ traffic_changes bank c (events.Fill1 block bytes) = supplied_change bank c ++ di
 traffic_changes bank c (events.Evict1 block mask bytes) = dirty1_change bank c ++ dirty2_change bank c
 traffic_changes bank c (events.Evict2 second masks bytes) = dirty2_change bank c
 traffic_changes bank c event = []
+
+-- the same in a cache by itself
+abbrev pub alone_changes : ℕ → Counts → Event → List ℕ
+alone_changes bank c (events.Hit port tag) = dirty1_change bank c
+alone_changes bank c (events.Primary port tag register) = asked_change bank c
+alone_changes bank c (events.Fill1 block bytes) = asked_change bank c ++ dirty1_change bank c
+alone_changes bank c (events.Grant block) = asked_change bank c ++ dirty1_change bank c
+alone_changes bank c (events.Evict1 block mask bytes) = dirty1_change bank c
+alone_changes bank c (events.Clean1 block mask bytes) = dirty1_change bank c
+alone_changes bank c event = []
+
+abbrev pub count_changes : Below → ℕ → Counts → Event → List ℕ
+count_changes below bank c event = by_below below (traffic_changes bank c event) (alone_changes bank c event)
 
 -- the counts of each of the first banks
 abbrev pub standing_count : Flows → ℕ → List ℕ
@@ -292,7 +329,7 @@ moment times view place busy level1 level2 flows r =
     standing view place busy level1 level2 flows ++ (marks view place
     ++ (record_changes view busy r
     ++ (register_changes view level1 level2 r.bank r.event
-    ++ (traffic_changes r.bank (counts_of (flow_at flows.banks r.bank)) r.event
+    ++ (count_changes view.below r.bank (counts_of (flow_at flows.banks r.bank)) r.event
     ++ (word_end times place (event_signal r.log r.bank r.event)
     ++ page_behind times (last_mark view.marker view.first) place)))))
 
@@ -327,7 +364,7 @@ undrawn view = record {
   busy = [];
   level1 = [];
   level2 = [];
-  flows = no_flow view.block view.factor;
+  flows = no_flow view.below view.block view.factor;
 }
 
 -- one record more
@@ -336,7 +373,7 @@ next wave r = record {
   view = wave.view;
   place = wave.place + 1;
   counts = one_more_of wave.counts r.log;
-  busy = busy_after wave.busy r;
+  busy = busy_after wave.view.block wave.busy r;
   level1 = level1_after wave.view.block wave.busy r.bank r.event wave.level1;
   level2 = level2_after wave.view.factor r.bank r.event wave.level2;
   flows = flows_after wave.flows r;

@@ -1,9 +1,10 @@
 //! What a record changes.
 
 ghost use Rattle.std.specs.Prelude.{◌≡◌, Some};
-ghost use Rattle.wave_signals.specs.Wave.{port_changes, block_change, request_changes, bank_changes, record_changes};
+ghost use Rattle.wave_signals.specs.Wave.{issued_changes, port_changes, block_change, request_changes, bank_changes};
+ghost use Rattle.wave_signals.specs.Wave.{record_changes};
 
-use crate::busy::{BusyTag, outstanding};
+use crate::busy::{BusyTag, first_address, outstanding};
 use crate::change::{AbsenceChange, BusyChange, NumberChange, TextChange};
 use crate::event::{event_signal, word_of};
 use crate::registers::block_requested;
@@ -12,9 +13,41 @@ use crate::view::View;
 use lf_rules::{Event, Record};
 use std::fmt;
 
-/// The values that a record gives its port, of whose tags so many are busy then.
+/// The values that a request for the bytes at an address gives its port.
+#[derive(Clone, Copy)]
+struct IssuedChanges {
+    tags: u16,
+    port: u8,
+    tag: u8,
+    address: u64,
+}
+
+impl fmt::Display for IssuedChanges {
+    ghost output = { λ c. Some (issued_changes c.tags c.port c.tag c.address) };
+
+    fn fmt<W: fmt::Write>(&self, f: &mut fmt::Formatter<W>) -> fmt::Result {
+        let IssuedChanges {
+            tags,
+            port,
+            tag,
+            address,
+        } = *self;
+        let named = NumberChange::new(u64::from(tag), Signal::PortTag { port });
+        let address = NumberChange::new(address, Signal::Address { port });
+        let busy = BusyChange {
+            tags,
+            up: true,
+            port,
+            tag,
+        };
+        write!(f, "{named}{address}{busy}")
+    }
+}
+
+/// The values that a record gives its port, of whose tags so many are busy then, where blocks have so many bytes.
 #[derive(Clone, Copy)]
 struct PortChanges<'a> {
+    size: u32,
     tags: u16,
     outstanding: u64,
     port: u8,
@@ -22,10 +55,11 @@ struct PortChanges<'a> {
 }
 
 impl fmt::Display for PortChanges<'_> {
-    ghost output = { λ c. Some (port_changes c.tags c.outstanding c.port c.event.now) };
+    ghost output = { λ c. Some (port_changes c.size c.tags c.outstanding c.port c.event.now) };
 
     fn fmt<W: fmt::Write>(&self, f: &mut fmt::Formatter<W>) -> fmt::Result {
         let PortChanges {
+            size,
             tags,
             outstanding,
             port,
@@ -34,16 +68,22 @@ impl fmt::Display for PortChanges<'_> {
         let outstanding = NumberChange::new(outstanding, Signal::Outstanding { port });
         match event {
             Event::Issue { tag, address, .. } => {
-                let tag = *tag;
-                let named = NumberChange::new(u64::from(tag), Signal::PortTag { port });
-                let address = NumberChange::new(*address, Signal::Address { port });
-                let busy = BusyChange {
+                let issued = IssuedChanges {
                     tags,
-                    up: true,
                     port,
-                    tag,
+                    tag: *tag,
+                    address: *address,
                 };
-                write!(f, "{named}{address}{busy}{outstanding}")
+                write!(f, "{issued}{outstanding}")
+            }
+            Event::Masked { tag, block, .. } => {
+                let issued = IssuedChanges {
+                    tags,
+                    port,
+                    tag: *tag,
+                    address: first_address(size, *block),
+                };
+                write!(f, "{issued}{outstanding}")
             }
             Event::Reply { tag, .. } => {
                 let tag = *tag;
@@ -173,7 +213,11 @@ impl fmt::Display for BankChanges<'_> {
             | Event::SecondHit { block }
             | Event::SecondStall { block }
             | Event::Fill2 { block, .. }
-            | Event::Evict2 { block, .. } => {
+            | Event::Evict2 { block, .. }
+            | Event::Grant { block }
+            | Event::Clean1 { block, .. }
+            | Event::Yield1 { block }
+            | Event::Outside { block, .. } => {
                 let block = NumberChange::new(u64::from(*block), Signal::Block { bank });
                 write!(f, "{block}")
             }
@@ -206,8 +250,9 @@ impl fmt::Display for RecordChanges<'_> {
             signal: event_signal(self.item),
         };
         match event {
-            Event::Issue { .. } | Event::Reply { .. } | Event::Fence => {
+            Event::Issue { .. } | Event::Reply { .. } | Event::Fence | Event::Masked { .. } => {
                 let named = PortChanges {
+                    size: self.view.block,
                     tags: self.view.tags,
                     outstanding: outstanding(self.busy, *log),
                     port: *log,

@@ -28,6 +28,12 @@ pub fn word_of(event: &Event) -> &'static str
         Event::Evict2 { .. } => "evict2",
         Event::Fence => "fence",
         Event::SecondMerge { .. } => "second_merge",
+        Event::Masked { op: Op::Load, .. } => "masked_load",
+        Event::Masked { op: Op::Store, .. } => "masked_store",
+        Event::Grant { .. } => "grant",
+        Event::Clean1 { .. } => "clean1",
+        Event::Yield1 { .. } => "yield1",
+        Event::Outside { .. } => "outside",
     }
 }
 
@@ -36,7 +42,7 @@ pub fn event_signal(item: &Record) -> Signal
     ensures { result ≡ event_signal item.now.log item.now.bank item.now.event }
 {
     match &item.event {
-        Event::Issue { .. } | Event::Reply { .. } | Event::Fence => {
+        Event::Issue { .. } | Event::Reply { .. } | Event::Fence | Event::Masked { .. } => {
             Signal::PortEvent { port: item.log }
         }
         _ => Signal::BankEvent { bank: item.bank },

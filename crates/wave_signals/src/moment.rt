@@ -421,6 +421,7 @@ impl fmt::Display for Moment<'_> {
             item,
         };
         let counts = TrafficChanges {
+            below: view.below,
             counts: traffic.counts(item.bank),
             item,
         };

@@ -82,7 +82,7 @@ impl fmt::Display for FillChanges<'_> {
     fn fmt<W: fmt::Write>(&self, f: &mut fmt::Formatter<W>) -> fmt::Result {
         let bank = self.item.bank;
         match &self.item.event {
-            Event::Fill1 { block, .. } => {
+            Event::Fill1 { block, .. } | Event::Grant { block } => {
                 let freed = FreedRegisters {
                     registers: self.view.level1_registers,
                     level: Level::One,
@@ -221,7 +221,7 @@ impl fmt::Display for RegisterChanges<'_> {
                 };
                 write!(f, "{change}")
             }
-            Event::Fill1 { .. } => {
+            Event::Fill1 { .. } | Event::Grant { .. } => {
                 let count = CountChange {
                     level: Level::One,
                     held: self.level1,

@@ -196,7 +196,7 @@ pub(crate) fn apply_level1(
             let block = block_requested(size, busy, *port, *tag);
             join(held, block, item.bank, *register)
         }
-        Event::Fill1 { block, .. } => {
+        Event::Fill1 { block, .. } | Event::Grant { block } => {
             fill(held, item.bank, u64::from(*block));
             Ok(())
         }

@@ -3,13 +3,13 @@
 ghost use Rattle.std.specs.Prelude.{◌≡◌, Some};
 ghost use Rattle.wave_signals.specs.declared.registers.Level.TheVariants as levels;
 ghost use Rattle.wave_signals.specs.declared.signal.Signal.TheVariants as signals;
-ghost use Rattle.wave_signals.specs.Wave.{all_counts, traffic_changes, standing_count};
+ghost use Rattle.wave_signals.specs.Wave.{all_counts, count_changes, standing_count};
 
 use crate::change::NumberChange;
 use crate::each::Numbered;
 use crate::registers::Level;
 use crate::signal::Signal;
-use lf_rules::{Event, Record};
+use lf_rules::{Below, Event, Record};
 use std::fmt;
 use wave_traffic::{Counts, Traffic};
 
@@ -62,12 +62,13 @@ impl fmt::Display for AllCounts {
 /// The counts that a record may change, where these are those of its bank after it.
 #[derive(Clone, Copy)]
 pub struct TrafficChanges<'a> {
+    pub below: Below,
     pub counts: Counts,
     pub item: &'a Record,
 }
 
 impl fmt::Display for TrafficChanges<'_> {
-    ghost output = { λ c. Some (traffic_changes c.item.now.bank c.counts c.item.now.event) };
+    ghost output = { λ c. Some (count_changes c.below c.item.now.bank c.counts c.item.now.event) };
 
     fn fmt<W: fmt::Write>(&self, f: &mut fmt::Formatter<W>) -> fmt::Result {
         let bank = self.item.bank;
@@ -75,16 +76,21 @@ impl fmt::Display for TrafficChanges<'_> {
         let supplied = supplied(bank, self.counts);
         let dirty1 = dirty1(bank, self.counts);
         let dirty2 = dirty2(bank, self.counts);
-        match &self.item.event {
-            Event::Hit { .. } => write!(f, "{dirty1}"),
-            Event::Primary { .. } | Event::SecondPrimary { .. } | Event::SecondMerge { .. } => {
+        match (self.below, &self.item.event) {
+            (_, Event::Hit { .. }) => write!(f, "{dirty1}"),
+            (_, Event::Primary { .. }) => write!(f, "{asked}"),
+            (Below::LevelTwo, Event::SecondPrimary { .. } | Event::SecondMerge { .. }) => {
                 write!(f, "{asked}")
             }
-            Event::SecondHit { .. } => write!(f, "{asked}{supplied}"),
-            Event::Fill2 { .. } => write!(f, "{supplied}{dirty2}"),
-            Event::Fill1 { .. } => write!(f, "{supplied}{dirty1}"),
-            Event::Evict1 { .. } => write!(f, "{dirty1}{dirty2}"),
-            Event::Evict2 { .. } => write!(f, "{dirty2}"),
+            (Below::LevelTwo, Event::SecondHit { .. }) => write!(f, "{asked}{supplied}"),
+            (Below::LevelTwo, Event::Fill2 { .. }) => write!(f, "{supplied}{dirty2}"),
+            (Below::LevelTwo, Event::Fill1 { .. }) => write!(f, "{supplied}{dirty1}"),
+            (Below::LevelTwo, Event::Evict1 { .. }) => write!(f, "{dirty1}{dirty2}"),
+            (Below::LevelTwo, Event::Evict2 { .. }) => write!(f, "{dirty2}"),
+            (Below::Outside, Event::Fill1 { .. } | Event::Grant { .. }) => {
+                write!(f, "{asked}{dirty1}")
+            }
+            (Below::Outside, Event::Evict1 { .. } | Event::Clean1 { .. }) => write!(f, "{dirty1}"),
             _ => Ok(()),
         }
     }

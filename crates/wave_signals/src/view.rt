@@ -5,7 +5,7 @@ ghost use Rattle.lf_rules.specs.Registers.{registers_of};
 ghost use Rattle.wave_signals.specs.Shapes.{most_registers, whole};
 ghost use Rattle.wave_signals.specs.Wave.{why_text, is_fault, last_mark, is_shown};
 
-use lf_rules::{OrgShape, Rule, Shape};
+use lf_rules::{Below, OrgShape, Rule, Shape};
 use std::fmt;
 
 /// So many registers of a level have signals at most.
@@ -69,6 +69,8 @@ pub struct View {
     pub block: u32,
     /// The blocks of a second-level block.
     pub factor: u32,
+    /// What is below level one.
+    pub below: Below,
     /// The record at fault that the verdict names, or the last one, where no record can come behind it.
     pub marker: Option<Marker>,
     /// The record that broke a rule first.
@@ -107,9 +109,13 @@ impl View {
             tags: u16::try_from(shape.tags).unwrap_or(u16::MAX),
             banks: u8::try_from(shape.banks).unwrap_or(u8::MAX),
             level1_registers: at_most(level1),
-            level2_registers: at_most(level2),
+            level2_registers: match shape.below {
+                Below::LevelTwo => at_most(level2),
+                Below::Outside => 0,
+            },
             block: shape.block,
             factor: shape.factor,
+            below: shape.below,
             marker: None,
             first: None,
         }

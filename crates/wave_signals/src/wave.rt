@@ -59,7 +59,7 @@ impl Wave {
             busy: Vec::new(alloc),
             level1: Vec::new(alloc),
             level2: Vec::new(alloc),
-            traffic: Traffic::new(alloc, view.block, view.factor),
+            traffic: Traffic::new(alloc, view.below, view.block, view.factor),
         }
     }
 
@@ -158,7 +158,7 @@ impl Wave {
         self.begin(times, item, text)?;
         apply_level1(&mut self.level1, self.view.block, &self.busy, item)?;
         apply_level2(&mut self.level2, self.view.factor, item)?;
-        apply(&mut self.busy, item)?;
+        apply(&mut self.busy, self.view.block, item)?;
         self.traffic.take(item)?;
         self.show(times, item, text)?;
         self.counts.take(item.log);

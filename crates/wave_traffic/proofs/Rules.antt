@@ -13,11 +13,13 @@ use Rattle.std.proofs.lemmas.List.{map-append}
 use Rattle.std.specs.List.{filter, AllByRecursion}
 use Rattle.lf_rules.specs.declared.event.Op.{Op}
 use Rattle.lf_rules.specs.declared.event.Event.{Event}
-use Rattle.lf_rules.specs.declared.event.Event.TheVariants.{Issue, Reply, Fence, Hit, Primary, Merge, Stall, Fill1}
+use Rattle.lf_rules.specs.declared.event.Event.TheVariants.{Issue, Reply, Hit, Primary, Merge, Stall, Fill1}
 use Rattle.lf_rules.specs.declared.event.Event.TheVariants.{Evict1}
 use Rattle.lf_rules.specs.declared.event.Event.TheVariants.{SecondHit, SecondPrimary, SecondMerge, SecondStall, Fill2}
 use Rattle.lf_rules.specs.declared.event.Event.TheVariants.{Evict2}
 use Rattle.lf_rules.specs.declared.event.Record.{Record}
+use Rattle.lf_rules.specs.declared.shape.Below.TheVariants.{LevelTwo}
+use Rattle.lf_rules.proofs.Chosen.{two_after, two_state}
 use Rattle.lf_rules.specs.declared.shape.Shape.{Shape}
 use Rattle.lf_rules.specs.Fits.{is_size, FitsEvent, Fits}
 use Rattle.lf_rules.specs.Lines.{with_line, dirty_mask, mark}
@@ -247,7 +249,7 @@ module _ (flow : Flow) (slice : Slice) (alike : Alike flow slice) where
       fetched = alike.fetched;
       supplied = alike.supplied;
     }
-    one_more Fence = alike
+    one_more _ = alike
 
 -- ---- the dirty lines of a bank
 
@@ -432,11 +434,11 @@ module _ (flow : Flow) (slice : Slice) (alike : Alike flow slice) (dirty_alike :
       queues = dirty_alike.queues;
       stores = dirty_alike.stores;
     }
-    dirty_more bank Fence fits = dirty_alike
+    dirty_more bank _ fits = dirty_alike
 
 -- ---- all banks
 
-flow_grown : (flows : List Flow) (bank k : ℕ) → flow_at (grown flows bank) k ≡ flow_at flows k
+pub flow_grown : (flows : List Flow) (bank k : ℕ) → flow_at (grown flows bank) k ≡ flow_at flows k
 flow_grown flows bank k = elim (cases_lt k (length flows)) [
   | inl below ↦ get_or_append_left flows new empty_flow k below
   | inr past ↦ get_or-append_right flows new k empty_flow past
@@ -477,23 +479,24 @@ value r state = rules.value_at state.memory (rules.accepts (state.slice r.bank) 
 abbrev replies : Record → State → List Ready
 replies r state = rules.replies_at (state.slice r.bank) r.event
 
-module _ (shape : Shape) (some_size : 0 < shape.block) (some_factor : 0 < shape.factor) where
+module _ (shape : Shape) (two : shape.below ≡ LevelTwo) (some_size : 0 < shape.block)
+    (some_factor : 0 < shape.factor) where
   abbrev all_of : List Flow → Flows
-  all_of banks = record { size = shape.block; factor = shape.factor; banks = banks }
+  all_of banks = record { below = LevelTwo; size = shape.block; factor = shape.factor; banks = banks }
 
   abbrev AllFollow : List Flow → State → Type 0
   AllFollow banks state = (b : ℕ) →
       Alike (flow_at banks b) (state.slice b) × DirtyAlike (flow_at banks b) (state.slice b)
 
   step : (banks : List Flow) (state : State) → AllFollow banks state → (r : Record) → Fits shape r →
-      AllFollow (flows_after (all_of banks) r).banks (state_after shape state r)
+      AllFollow (flows_after (all_of banks) r).banks (two_after shape state r)
   step banks state follow r fits = λ b.
       let was = follow r.bank in
       let one = one_more (flow_at banks r.bank) (state.slice r.bank) was.0 shape some_size some_factor
       (value r state) (replies r state) r.log r.event in
       let two = dirty_more (flow_at banks r.bank) (state.slice r.bank) was.0 was.1 shape
       (value r state) (replies r state) r.log r.bank r.event fits.event in
-      let new : Slice = (state_after shape state r).slice b in
+      let new : Slice = (two_after shape state r).slice b in
       subst (λ (f : Flow). Alike f new × DirtyAlike f new)
       (sym (flow_set banks r.bank (flow_after shape.block shape.factor (flow_at banks r.bank) r.log r.event) b))
       (elim (r.bank == b) as (λ c.
@@ -510,10 +513,11 @@ module _ (shape : Shape) (some_size : 0 < shape.block) (some_factor : 0 < shape.
   all_follow [] banks state follow fit = follow
   all_follow (r ∷ rs) banks state follow fit =
       all_follow rs (flows_after (all_of banks) r).banks (state_after shape state r)
-      (step banks state follow r fit.0) fit.1
+      (subst (AllFollow (flows_after (all_of banks) r).banks) (sym (two_state shape state r two))
+      (step banks state follow r fit.0)) fit.1
 
 pub flows_are_of_the_rules : FlowsAreOfTheRules
-flows_are_of_the_rules shape memory rs bank some_size some_factor fit =
+flows_are_of_the_rules shape memory rs bank two some_size some_factor fit =
     let alike : Alike empty_flow empty_slice = record {
       queue = λ _. refl;
       asked = refl;
@@ -527,5 +531,5 @@ flows_are_of_the_rules shape memory rs bank some_size some_factor fit =
       queues = λ _. tt;
       stores = tt;
     } in
-    let is = all_follow shape some_size some_factor rs [] (opening memory) (λ _. (alike, dirty_alike)) fit bank in
+    let is = all_follow shape two some_size some_factor rs [] (opening memory) (λ _. (alike, dirty_alike)) fit bank in
     record { asked = is.0.asked; supplied = is.0.supplied; dirty1 = is.1.dirty1 }

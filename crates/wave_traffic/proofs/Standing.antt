@@ -4,6 +4,9 @@ use Rattle.std.proofs.Common.{refl, sym, ap, ◌∙◌, subst, eqb-true}
 use Rattle.std.specs.Prelude.{unwrap_or}
 use Rattle.std.specs.List.{AllByRecursion}
 use Rattle.std.proofs.lemmas.Bool.{eqb-false, and_parts, both_ways, not-true}
+use Rattle.lf_rules.specs.declared.shape.Below.TheVariants.{LevelTwo}
+use Rattle.lf_rules.specs.Step.{step_clauses}
+use Rattle.lf_rules.proofs.Chosen.{two_after, two_clauses, two_state}
 use Rattle.lf_rules.specs.declared.shape.Shape.{Shape}
 use Rattle.lf_rules.specs.declared.event.Record.{Record}
 use Rattle.lf_rules.specs.declared.event.Event.{Event}
@@ -110,8 +113,9 @@ pub record AllStand (shape : Shape) (state : State) : Type 0 where
   pub home : AreHome shape state
   pub banks : (bank : ℕ) → BankStands shape state.memory bank (state.slice bank)
 
-module _ (shape : Shape) (some : 0 < shape.factor) (s : State) (stand : AllStand shape s) (r : Record)
-    (fits : Fits shape r) (run : first_failing OfBoth (clauses shape (seen_by r.log r.bank s) r) ≡ None) where
+module _ (shape : Shape) (two : shape.below ≡ LevelTwo) (some : 0 < shape.factor) (s : State)
+    (stand : AllStand shape s) (r : Record) (fits : Fits shape r)
+    (run : first_failing OfBoth (clauses shape (seen_by r.log r.bank s) r) ≡ None) where
   abbrev next : Slice
   next = slice_after shape (value_at s.memory (accepts (s.slice r.bank) r.event)) (replies_at (s.slice r.bank) r.event)
       (s.slice r.bank) r.log r.event
@@ -143,9 +147,9 @@ module _ (shape : Shape) (some : 0 < shape.factor) (s : State) (stand : AllStand
         regs = was.regs;
       }
 
-  pub stand_next : AllStand shape (state_after shape s r)
+  pub stand_next : AllStand shape (two_after shape s r)
   stand_next = record {
-    home = home_step shape s r fits stand.home;
+    home = subst (AreHome shape) (two_state shape s r two) (home_step shape s r fits stand.home);
     banks =
         λ bank. elim (r.bank == bank) as (λ c. (r.bank == bank) ≡ c →
         BankStands shape memory bank (cond c next (s.slice bank))) [
@@ -214,16 +218,16 @@ module _ (shape : Shape) (some : 0 < shape.factor) (memory : FlatMemory) (bank :
   dirty_two_more (SecondMerge x register) fit holds = record { dirty2 = two.dirty2; rising = two.rising }
   dirty_two_more _ fit holds = record { dirty2 = two.dirty2; rising = two.rising }
 
-module _ (shape : Shape) (some : 0 < shape.factor) where
+module _ (shape : Shape) (two : shape.below ≡ LevelTwo) (some : 0 < shape.factor) where
   abbrev all_of : List Flow → Flows
-  all_of banks = record { size = shape.block; factor = shape.factor; banks = banks }
+  all_of banks = record { below = LevelTwo; size = shape.block; factor = shape.factor; banks = banks }
 
   abbrev AllTwo : List Flow → State → Type 0
   AllTwo banks state = (b : ℕ) → DirtyTwo (flow_at banks b) (state.slice b)
 
   two_next : (banks : List Flow) (s : State) → AllTwo banks s → AllStand shape s → (r : Record) → Fits shape r →
       first_failing OfBoth (clauses shape (seen_by r.log r.bank s) r) ≡ None →
-      AllTwo (flows_after (all_of banks) r).banks (state_after shape s r)
+      AllTwo (flows_after (all_of banks) r).banks (two_after shape s r)
   two_next banks s follow stand r fits run = λ b.
       let flow = flow_after shape.block shape.factor (flow_at banks r.bank) r.log r.event in
       let value = value_at s.memory (accepts (s.slice r.bank) r.event) in
@@ -232,7 +236,7 @@ module _ (shape : Shape) (some : 0 < shape.factor) where
       dirty_two_more shape some s.memory r.bank (s.busy r.log) (s.slice r.bank) r.log (stand.home r.bank)
       (stand.banks r.bank) _ (flow_at banks r.bank) (follow r.bank) value replies r.event (names_home shape r fits)
       (all_hold (clauses shape (seen_by r.log r.bank s) r) run) in
-      subst (λ (f : Flow). DirtyTwo f ((state_after shape s r).slice b))
+      subst (λ (f : Flow). DirtyTwo f ((two_after shape s r).slice b))
       (sym (flow_set banks r.bank flow b))
       (elim (r.bank == b) as (λ c. DirtyTwo (cond c flow (flow_at banks b))
       (cond c (slice_after shape value replies (s.slice r.bank) r.log r.event) (s.slice b))) [
@@ -240,15 +244,22 @@ module _ (shape : Shape) (some : 0 < shape.factor) where
         | false ↦ follow b
       ])
 
+  holds : (s : State) (r : Record) → first_failing OfBoth (step_clauses shape (seen_by r.log r.bank s) r) ≡ None →
+      first_failing OfBoth (clauses shape (seen_by r.log r.bank s) r) ≡ None
+  holds s r run = sym (ap (first_failing OfBoth) (two_clauses shape (seen_by r.log r.bank s) r two)) ∙ run
+
   all_two : (rs : List Record) (banks : List Flow) (s : State) → AllTwo banks s → AllStand shape s →
       AllByRecursion (Fits shape) rs → IsRunFrom shape s rs →
       AllTwo (flows_after_all (all_of banks) rs).banks (states_after shape s rs)
   all_two [] banks s follow stand fit run = follow
   all_two (r ∷ rs) banks s follow stand fit run =
       all_two rs (flows_after (all_of banks) r).banks (state_after shape s r)
-      (two_next banks s follow stand r fit.0 run.0) (stand_next shape some s stand r fit.0 run.0) fit.1 run.1
+      (subst (AllTwo (flows_after (all_of banks) r).banks) (sym (two_state shape s r two))
+      (two_next banks s follow stand r fit.0 (holds s r run.0)))
+      (subst (AllStand shape) (sym (two_state shape s r two))
+      (stand_next shape two some s stand r fit.0 (holds s r run.0))) fit.1 run.1
 
 pub dirty_seconds_are_of_the_rules : DirtySecondsAreOfTheRules
-dirty_seconds_are_of_the_rules shape memory rs bank some fit run =
-    (all_two shape some rs [] (opening memory) (λ _. record { dirty2 = refl; rising = tt }) (all_stand shape memory) fit
-    run bank).dirty2
+dirty_seconds_are_of_the_rules shape memory rs bank two some fit run =
+    (all_two shape two some rs [] (opening memory) (λ _. record { dirty2 = refl; rising = tt })
+    (all_stand shape memory) fit run bank).dirty2

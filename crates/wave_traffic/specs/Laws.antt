@@ -2,6 +2,7 @@
 use Rattle.std.specs.Prelude.{◌≡◌, ℕ, ◌<◌, ◌==◌, not, Bool, List, [], ◌∷◌, map, if◌then◌else◌}
 use Rattle.std.specs.List.{fold, list_any, AllByRecursion}
 use Rattle.lf_rules.specs.declared.event.Record.{Record}
+use Rattle.lf_rules.specs.declared.shape.Below.TheVariants.{LevelTwo}
 use Rattle.lf_rules.specs.declared.shape.Shape.{Shape}
 use Rattle.lf_rules.specs.Address.{FlatMemory, Masks}
 use Rattle.lf_rules.specs.Fits.{Fits}
@@ -27,8 +28,8 @@ pub record IsOfSlice (flow : Flow) (slice : Slice) : Type 0 where
 
 abbrev pub FlowsAreOfTheRules : Type 0
 FlowsAreOfTheRules = (shape : Shape) (memory : FlatMemory) (rs : List Record) (bank : ℕ) →
-    0 < shape.block → 0 < shape.factor → AllByRecursion (Fits shape) rs →
-    IsOfSlice (flow_at (flows_after_all (no_flow shape.block shape.factor) rs).banks bank)
+    shape.below ≡ LevelTwo → 0 < shape.block → 0 < shape.factor → AllByRecursion (Fits shape) rs →
+    IsOfSlice (flow_at (flows_after_all (no_flow LevelTwo shape.block shape.factor) rs).banks bank)
     ((states_after shape (opening memory) rs).slice bank)
 
 -- is a byte of one of the masks dirty?
@@ -43,6 +44,6 @@ dirty_seconds (l ∷ lines) = if is_dirty l.1 then l.0 ∷ dirty_seconds lines e
 -- After a run, as after each front of the interleaving of a yes, the dirty lines of level two are those of the rules.
 abbrev pub DirtySecondsAreOfTheRules : Type 0
 DirtySecondsAreOfTheRules = (shape : Shape) (memory : FlatMemory) (rs : List Record) (bank : ℕ) →
-    0 < shape.factor → AllByRecursion (Fits shape) rs → IsRun shape memory rs →
-    (flow_at (flows_after_all (no_flow shape.block shape.factor) rs).banks bank).dirty2
+    shape.below ≡ LevelTwo → 0 < shape.factor → AllByRecursion (Fits shape) rs → IsRun shape memory rs →
+    (flow_at (flows_after_all (no_flow LevelTwo shape.block shape.factor) rs).banks bank).dirty2
     ≡ dirty_seconds ((states_after shape (opening memory) rs).slice bank).lines2

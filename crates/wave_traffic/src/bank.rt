@@ -7,6 +7,7 @@ ghost use Rattle.wave_traffic.specs.Flow.{with_if, make_dirty, make_clean, make_
 ghost use Rattle.wave_traffic.specs.Flow.{is_second, flow_after, counts_of};
 ghost use Rattle.wave_traffic.specs.Flow.{empty_flow, after_hit, after_primary, after_merge, after_fill1, after_evict1};
 ghost use Rattle.wave_traffic.specs.Flow.{after_second_hit, after_second_miss, after_fill2};
+ghost use Rattle.wave_traffic.specs.Flow.{filled_alone, granted, written_back, alone_after};
 
 use crate::counts::Counts;
 use crate::queue::{Queued, accept, quotient};
@@ -226,6 +227,55 @@ impl BankFlow {
     {
         self.queue.push(request)?;
         Ok(())
+    }
+
+    /// A fill of a cache by itself.
+    fn fill_alone(&mut self, block: u64) -> Result<(), AllocError>
+        ensures { OnOk result (self.new ≡ filled_alone self.old block) }
+    {
+        let is_dirty = is_among(&self.stored, block);
+        after_fill(is_dirty, &mut self.dirty1, block)?;
+        drop_block(&mut self.stored, block);
+        drop_block(&mut self.asked, block);
+        Ok(())
+    }
+
+    fn grant(&mut self, block: u64) -> Result<(), AllocError>
+        ensures { OnOk result (self.new ≡ granted self.old block) }
+    {
+        let is_dirty = is_among(&self.stored, block);
+        make_dirty_if(is_dirty, &mut self.dirty1, block)?;
+        drop_block(&mut self.stored, block);
+        drop_block(&mut self.asked, block);
+        Ok(())
+    }
+
+    fn write_back(&mut self, block: u64)
+        ensures { self.new ≡ written_back self.old block }
+    {
+        make_clean(&mut self.dirty1, block);
+    }
+
+    /// A record of the bank of a cache by itself, where blocks have so many bytes.
+    pub fn take_alone(&mut self, size: u32, item: &Record) -> Result<(), AllocError>
+        ensures { OnOk result (self.new ≡ alone_after size self.old item.now.log item.now.event) }
+    {
+        match &item.event {
+            Event::Issue { op, address, .. } => {
+                self.issue(Queued::of_issue(size, item.log, *op, *address))
+            }
+            Event::Masked { op, block, .. } => self.issue(Queued::masked(item.log, *op, *block)),
+            Event::Hit { port, .. } => self.hit(*port),
+            Event::Primary { port, .. } => self.primary(*port),
+            Event::Merge { port, .. } => self.merge(*port),
+            Event::Fill1 { block, .. } => self.fill_alone(u64::from(*block)),
+            Event::Grant { block } => self.grant(u64::from(*block)),
+            Event::Evict1 { block, .. } | Event::Clean1 { block, .. } => {
+                self.write_back(u64::from(*block));
+                Ok(())
+            }
+            _ => Ok(()),
+        }
     }
 
     /// A record of the bank, where blocks have so many bytes and second-level blocks so many blocks.

@@ -2,7 +2,8 @@
 
 ghost use Rattle.std.specs.Prelude.{◌≡◌};
 ghost use Rattle.std.specs.List.{find, position};
-ghost use Rattle.wave_traffic.specs.Flow.{quotient, is_store, request_of, is_of_port, nobody, oldest, without_oldest};
+ghost use Rattle.wave_traffic.specs.Flow.{quotient, is_store, request_of, masked_request, is_of_port, nobody, oldest};
+ghost use Rattle.wave_traffic.specs.Flow.{without_oldest};
 
 use lf_rules::Op;
 
@@ -39,6 +40,17 @@ impl Queued {
         Queued {
             port,
             block: quotient(size, address),
+            is_store: is_store(op),
+        }
+    }
+
+    /// A request for the bytes of a block under a mask.
+    pub fn masked(port: u8, op: Op, block: u32) -> Queued
+        ensures { result ≡ masked_request port op block }
+    {
+        Queued {
+            port,
+            block: u64::from(block),
             is_store: is_store(op),
         }
     }

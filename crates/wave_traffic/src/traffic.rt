@@ -1,11 +1,11 @@
 //! What is kept of all banks.
 
 ghost use Rattle.std.specs.Prelude.{◌≡◌, ◌<◌, length, slice_set, OnOk};
-ghost use Rattle.wave_traffic.specs.Flow.{flow_at, grown, flow_after, flows_after, no_flow, counts_of};
+ghost use Rattle.wave_traffic.specs.Flow.{flow_at, grown, flow_by, flows_after, no_flow, counts_of};
 
 use crate::bank::BankFlow;
 use crate::counts::Counts;
-use lf_rules::Record;
+use lf_rules::{Below, Record};
 use std::alloc::{AllocError, Global};
 use std::marker::Model;
 
@@ -21,17 +21,28 @@ fn grow(banks: &mut Vec<BankFlow>, bank: u8) -> Result<(), AllocError>
 }
 
 /// A record of its bank.
-fn take_one(banks: &mut [BankFlow], size: u32, factor: u32, item: &Record) -> Result<(), AllocError>
+fn take_one(
+    banks: &mut [BankFlow],
+    below: Below,
+    size: u32,
+    factor: u32,
+    item: &Record,
+) -> Result<(), AllocError>
     requires { item.now.bank < length banks.old }
     ensures { OnOk result (banks.new ≡ slice_set banks.old item.now.bank
-        (flow_after size factor (flow_at banks.old item.now.bank) item.now.log item.now.event)) }
+        (flow_by below size factor (flow_at banks.old item.now.bank) item.now.log item.now.event)) }
 {
-    banks[usize::from(item.bank)].take(size, factor, item)
+    let bank = &mut banks[usize::from(item.bank)];
+    match below {
+        Below::LevelTwo => bank.take(size, factor, item),
+        Below::Outside => bank.take_alone(size, item),
+    }
 }
 
 /// What goes between the levels of each bank while a trace is read, and which lines are dirty.
 #[derive(Drop)]
 pub struct Traffic {
+    below: Below,
     size: u32,
     factor: u32,
     /// One for each bank up to the last one that a record named.
@@ -43,16 +54,17 @@ impl Model for Traffic {
 
     ghost Value = { Flows };
 
-    ghost view = { λ t. record { size = t.size; factor = t.factor; banks = t.banks.items } };
+    ghost view = { λ t. record { below = t.below; size = t.size; factor = t.factor; banks = t.banks.items } };
 }
 
 impl Traffic {
-    /// Before the first record of a trace whose blocks have so many bytes, and its second-level blocks so many
-    /// blocks.
-    pub fn new(alloc: Global, size: u32, factor: u32) -> Traffic
-        ensures { result ≡ no_flow size factor }
+    /// Before the first record of a trace with this below level one, whose blocks have so many bytes, and its
+    /// second-level blocks so many blocks.
+    pub fn new(alloc: Global, below: Below, size: u32, factor: u32) -> Traffic
+        ensures { result ≡ no_flow below size factor }
     {
         Traffic {
+            below,
             size,
             factor,
             banks: Vec::new(alloc),
@@ -64,7 +76,7 @@ impl Traffic {
         ensures { OnOk result (self.new ≡ flows_after self.old item.now) }
     {
         grow(&mut self.banks, item.bank)?;
-        take_one(&mut self.banks, self.size, self.factor, item)
+        take_one(&mut self.banks, self.below, self.size, self.factor, item)
     }
 
     /// How many blocks and lines a bank has of each kind.

@@ -1,4 +1,4 @@
-"""Traces of a two-level lockup-free cache: recorded from a model, and read.
+"""Traces of a two-level lockup-free cache, or of a cache by itself: recorded from a model, and read.
 
 `Recorder` has a call for each event of a cache and writes the trace, `Reader` iterates over the records of a trace,
 and `write` spells a trace from records. The format is that of docs/FORMAT.md of the scoreboard `score`."""
@@ -8,19 +8,23 @@ from lfts.reader import Reader
 from lfts.recorder import Cycle, Phase, Recorder
 from lfts.trace import (
     NO_BANK,
+    Clean1,
     Event,
     Evict1,
     Evict2,
     Fence,
     Fill1,
     Fill2,
+    Grant,
     Header,
     Hit,
     Issue,
     Kind,
+    Masked,
     Memory,
     Merge,
     Op,
+    Outside,
     Primary,
     Record,
     Reply,
@@ -29,6 +33,7 @@ from lfts.trace import (
     SecondPrimary,
     SecondStall,
     Stall,
+    Yield1,
     write,
 )
 
@@ -40,6 +45,7 @@ __all__ = [
     "LOAD",
     "NO_BANK",
     "STORE",
+    "Clean1",
     "Cycle",
     "Event",
     "Evict1",
@@ -49,13 +55,16 @@ __all__ = [
     "Fill1",
     "Fill2",
     "FormatError",
+    "Grant",
     "Header",
     "Hit",
     "Issue",
     "Kind",
+    "Masked",
     "Memory",
     "Merge",
     "Op",
+    "Outside",
     "Phase",
     "Primary",
     "Reader",
@@ -68,6 +77,7 @@ __all__ = [
     "SecondPrimary",
     "SecondStall",
     "Stall",
+    "Yield1",
     "__version__",
     "write",
 ]

@@ -87,12 +87,12 @@ class Reader:
         if magic != trace.MAGIC:
             raise self._fault(Fault.MAGIC, f"{magic!r} and not {trace.MAGIC!r}")
         if version not in trace.VERSIONS:
-            raise self._fault(Fault.VERSION, f"version {version} and not 1, 2 or 3")
+            raise self._fault(Fault.VERSION, f"version {version} and not 1, 2, 3 or 4")
         if not (1 <= ports <= trace.MOST_PORTS and 1 <= banks <= trace.MOST_BANKS):
             raise self._fault(Fault.HEADER_RANGE, f"{ports} ports and {banks} banks and not 1 to 16 of each")
         if block not in trace.BLOCKS:
             raise self._fault(Fault.HEADER_RANGE, f"blocks of {block} bytes and not of 8, 16, 32 or 64")
-        if version < 3 and factor != 0:
+        if version != 3 and factor != 0:
             raise self._fault(Fault.RESERVED, f"{factor} and not 0 in bytes 10 and 11")
         if version == 3 and factor not in trace.FACTORS:
             raise self._fault(Fault.HEADER_RANGE, f"second-level blocks of {factor} blocks and not of 1, 2 or 4")
@@ -135,7 +135,7 @@ class Reader:
 
     def _check_head(self, kind: int, log: int, bank: int, zero: int, number: int, counts: List[int]) -> None:
         header, fence = self.header, kind == Kind.FENCE
-        if kind > trace.LAST_KIND[header.version]:
+        if kind not in trace.KINDS[header.version]:
             raise self._fault(Fault.KIND, f"kind {kind} in version {header.version}")
         if log >= header.logs or (kind in trace.PORT_KINDS) != (log < header.ports):
             raise self._fault(Fault.LOG_KIND, f"kind {kind} in log {log}")
@@ -160,6 +160,11 @@ class Reader:
         if mask >> self.header.block:
             raise self._fault(Fault.MASK_RANGE, f"mask {mask:#x} of a block of {self.header.block} bytes")
 
+    def _check_some(self, mask: int) -> None:
+        if not mask:
+            raise self._fault(Fault.MASK_RANGE, "a mask of no bytes")
+        self._check_mask(mask)
+
     def _issue(self, bank: int) -> trace.Issue:
         op, tag, size, zero, address = trace.ISSUE.unpack(self._take(trace.ISSUE.size))
         if op > Op.STORE:
@@ -177,7 +182,10 @@ class Reader:
 
     def _reply(self, bank: int) -> trace.Reply:
         tag, size, zero = trace.REPLY.unpack(self._take(trace.REPLY.size))
-        if size and size not in trace.SIZES:
+        if self.header.version == 4:
+            if size > self.header.block:
+                raise self._fault(Fault.SIZE, f"size {size} of a block of {self.header.block} bytes")
+        elif size and size not in trace.SIZES:
             raise self._fault(Fault.SIZE, f"size {size} and not 0, 1, 2, 4 or 8")
         self._check_reserved(zero)
         return trace.Reply(tag, self._take(size))
@@ -210,6 +218,25 @@ class Reader:
         self._check_bank("block", block, self.header.bank_of(block), bank)
         self._check_mask(mask)
         return trace.Evict1(block, mask, self._take(bits(mask)))
+
+    def _masked(self, bank: int) -> trace.Masked:
+        op, tag, zero, block, mask = trace.MASKED.unpack(self._take(trace.MASKED.size))
+        if op > Op.STORE:
+            raise self._fault(Fault.OP, f"op {op} and not 0 or 1")
+        self._check_reserved(zero)
+        self._check_bank("block", block, self.header.bank_of(block), bank)
+        self._check_some(mask)
+        return trace.Masked(Op(op), tag, block, mask, self._take(bits(mask)) if op == Op.STORE else b"")
+
+    def _clean1(self, bank: int) -> trace.Clean1:
+        cleaned = self._evict1(bank)
+        return trace.Clean1(cleaned.block, cleaned.mask, cleaned.data)
+
+    def _outside(self, bank: int) -> trace.Outside:
+        block, mask = trace.EVICT1.unpack(self._take(trace.EVICT1.size))
+        self._check_bank("block", block, self.header.bank_of(block), bank)
+        self._check_some(mask)
+        return trace.Outside(block, mask, self._take(bits(mask)))
 
     def _check_second(self, second: int, bank: int) -> None:
         if second >= BLOCK_NUMBERS // self.header.factor:
@@ -251,4 +278,9 @@ _EVENTS: Dict[int, Callable[[Reader, int], Event]] = {
     Kind.EVICT2: Reader._evict2,
     Kind.FENCE: lambda reader, _: trace.Fence(),
     Kind.SECOND_MERGE: lambda reader, bank: trace.SecondMerge(*reader._second_miss(bank)),
+    Kind.MASKED: Reader._masked,
+    Kind.GRANT: lambda reader, bank: trace.Grant(reader._block(bank)),
+    Kind.CLEAN1: Reader._clean1,
+    Kind.YIELD1: lambda reader, bank: trace.Yield1(reader._block(bank)),
+    Kind.OUTSIDE: Reader._outside,
 }

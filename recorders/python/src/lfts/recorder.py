@@ -45,7 +45,12 @@ _PHASES: Dict[Kind, Phase] = {
     Kind.STALL: Phase.LEVEL_ONE,
     Kind.FILL1: Phase.LEVEL_ONE,
     Kind.EVICT1: Phase.LEVEL_ONE,
+    Kind.GRANT: Phase.LEVEL_ONE,
+    Kind.CLEAN1: Phase.LEVEL_ONE,
+    Kind.YIELD1: Phase.LEVEL_ONE,
+    Kind.OUTSIDE: Phase.LEVEL_ONE,
     Kind.ISSUE: Phase.ISSUES,
+    Kind.MASKED: Phase.ISSUES,
 }
 
 
@@ -64,7 +69,8 @@ class Recorder:
     `out` is a path, or a binary file object, which may be a pipe: it is written from its place on, never moved, and
     left open by `close`. `ports`, `banks`, `block` (the bytes of a block) and `factor` (the blocks of a second-level
     block) are those of the cache. The version is 2, or 3 where a second-level block has more than one block; version 1
-    has no fences, and shorter logs. What memory holds at first is recorded before the first event.
+    has no fences, and shorter logs, and version 4 is that of a cache by itself, which has no level two. What memory
+    holds at first is recorded before the first event.
 
     A model without a clock calls in the order in which things happen, and each event takes the next number of its bank
     at once. A model with a clock calls `cycle` when a cycle begins. The events of a cycle are put in order by their
@@ -171,11 +177,36 @@ class Recorder:
         stored = carried("issue", "data", data, (size if op == Op.STORE else 0,))
         self._record("issue", port, bank, trace.Issue(op, tag, size, address, stored), phase)
 
+    def masked(
+        self,
+        port: int,
+        bank: int,
+        op: int,
+        tag: int,
+        block: int,
+        mask: int,
+        data: Bytes = b"",
+        *,
+        phase: Optional[Phase] = None,
+    ) -> None:
+        """A port sends a request for the bytes of a block under a mask, of which it has one at least. `data` are all
+        bytes of the block, of which a store writes those under the mask; empty for a load. In version 4."""
+        self._version("masked", 4)
+        port, tag = self._tag("masked", port, tag)
+        op = Op(one_of("masked", "op", op, (Op.LOAD, Op.STORE)))
+        block = self._block("masked", bank, block)
+        stored, written = self._some("masked", mask, data if op == Op.STORE else bytes(self._header.block))
+        if op == Op.LOAD and len(data) > 0:
+            raise RecordError("masked", "data", f"{len(data)} bytes", "none, since it is a load")
+        event = trace.Masked(op, tag, block, stored, written if op == Op.STORE else b"")
+        self._record("masked", port, bank, event, phase)
+
     def reply(self, port: int, bank: int, tag: int, data: Bytes = b"", *, phase: Optional[Phase] = None) -> None:
         """A port gets its reply. That of a load has the bytes that were asked for, that of a store has none."""
         port, tag = self._tag("reply", port, tag)
         bank = within("reply", "bank", bank, 0, self._header.banks - 1)
-        self._record("reply", port, bank, trace.Reply(tag, carried("reply", "data", data, (0, *trace.SIZES))), phase)
+        sizes = range(self._header.block + 1) if self._header.version == 4 else (0, *trace.SIZES)
+        self._record("reply", port, bank, trace.Reply(tag, carried("reply", "data", data, sizes)), phase)
 
     def fence(self, port: int, *, phase: Optional[Phase] = None) -> None:
         """No tag of the port is busy. From version 2 on."""
@@ -217,13 +248,43 @@ class Recorder:
         dirty, data = self._dirty("evict1", ("mask", mask), ("data", data))
         self._of_bank("evict1", bank, trace.Evict1(block, dirty, data), phase)
 
+    def grant(self, bank: int, block: int, *, phase: Optional[Phase] = None) -> None:
+        """Level one gets the right to write a block that it has. In version 4."""
+        self._version("grant", 4)
+        self._of_bank("grant", bank, trace.Grant(self._block("grant", bank, block)), phase)
+
+    def clean1(
+        self, bank: int, block: int, mask: int, data: Optional[Bytes] = None, *, phase: Optional[Phase] = None
+    ) -> None:
+        """Level one writes a line's dirty bytes back and keeps the line. The mask and the data are as for `evict1`. In
+        version 4."""
+        self._version("clean1", 4)
+        block = self._block("clean1", bank, block)
+        dirty, data = self._dirty("clean1", ("mask", mask), ("data", data))
+        self._of_bank("clean1", bank, trace.Clean1(block, dirty, data), phase)
+
+    def yield1(self, bank: int, block: int, *, phase: Optional[Phase] = None) -> None:
+        """Level one gives up the right to write a block, and keeps its line. In version 4."""
+        self._version("yield1", 4)
+        self._of_bank("yield1", bank, trace.Yield1(self._block("yield1", bank, block)), phase)
+
+    def outside(self, bank: int, block: int, mask: int, data: Bytes, *, phase: Optional[Phase] = None) -> None:
+        """What is below and beside the cache writes bytes of a block, one at least. `data` are all bytes of the block,
+        of which the trace gets those under the mask. In version 4."""
+        self._version("outside", 4)
+        block = self._block("outside", bank, block)
+        written, data = self._some("outside", mask, data)
+        self._of_bank("outside", bank, trace.Outside(block, written, data), phase)
+
     def second_hit(self, bank: int, block: int, *, phase: Optional[Phase] = None) -> None:
         """Level two has the second-level block of a block that level one asked for."""
+        self._level_two("second_hit")
         self._of_bank("second_hit", bank, trace.SecondHit(self._block("second_hit", bank, block)), phase)
 
     def second_primary(self, bank: int, block: int, register: int, *, phase: Optional[Phase] = None) -> None:
         """A block that level one asked for misses level two. No register there holds its second-level block, and it
         takes a register."""
+        self._level_two("second_primary")
         block = self._block("second_primary", bank, block)
         register = within("second_primary", "register", register, 0, U16)
         self._of_bank("second_primary", bank, trace.SecondPrimary(block, register), phase)
@@ -232,6 +293,7 @@ class Recorder:
         """A block that level one asked for misses level two. A register there holds its second-level block, and it is
         recorded beside the first. In version 3."""
         self._version("second_merge", 3)
+        self._level_two("second_merge")
         block = self._block("second_merge", bank, block)
         register = within("second_merge", "register", register, 0, U16)
         self._of_bank("second_merge", bank, trace.SecondMerge(block, register), phase)
@@ -239,10 +301,12 @@ class Recorder:
     def second_stall(self, bank: int, block: int, *, phase: Optional[Phase] = None) -> None:
         """A block that level one asked for misses level two, finds no room in the registers there and waits. It may be
         recorded once, in each cycle, or never."""
+        self._level_two("second_stall")
         self._of_bank("second_stall", bank, trace.SecondStall(self._block("second_stall", bank, block)), phase)
 
     def fill2(self, bank: int, second: int, parts: Iterable[Bytes], *, phase: Optional[Phase] = None) -> None:
         """Level two gets a second-level block, with the bytes of each of its blocks."""
+        self._level_two("fill2")
         second = self._second("fill2", bank, second)
         given = each("fill2", "parts", parts, self._header.factor)
         size = (self._header.block,)
@@ -261,6 +325,7 @@ class Recorder:
         """Level two gives up the line of a second-level block. Of each of its blocks it has the mask of the dirty
         bytes, and all bytes, of which the trace gets the dirty ones. A clean block, of mask 0, needs no bytes, and a
         clean line no parts."""
+        self._level_two("evict2")
         second = self._second("evict2", bank, second)
         factor = self._header.factor
         whole: Iterable[Optional[Bytes]] = (None,) * factor if parts is None else parts
@@ -360,6 +425,15 @@ class Recorder:
     def _version(self, call: str, least: int) -> None:
         if self._header.version < least:
             raise RecordError(call, "version", self._header.version, f"{least} or later")
+
+    def _level_two(self, call: str) -> None:
+        if self._header.version == 4:
+            raise RecordError(call, "version", self._header.version, "up to 3")
+
+    def _some(self, call: str, mask: int, data: Optional[Bytes]) -> Tuple[int, bytes]:
+        """The same as `_dirty` of a mask with one byte at least."""
+        number = within(call, "mask", mask, 1, (1 << self._header.block) - 1)
+        return self._dirty(call, ("mask", number), ("data", data))
 
     def _tag(self, call: str, port: int, tag: int) -> Tuple[int, int]:
         return within(call, "port", port, 0, self._header.ports - 1), within(call, "tag", tag, 0, U8)

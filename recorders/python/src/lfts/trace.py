@@ -17,11 +17,12 @@ REPLY = struct.Struct("<BBH")
 REQUEST = struct.Struct("<BBH")
 ASKED = struct.Struct("<IHH")
 EVICT1 = struct.Struct("<IQ")
+MASKED = struct.Struct("<BBHIQ")
 
 MAGIC = b"LFTS"
 NO_BANK = 255
 END = 0
-VERSIONS = (1, 2, 3)
+VERSIONS = (1, 2, 3, 4)
 BLOCKS = (8, 16, 32, 64)
 FACTORS = (1, 2, 4)
 SIZES = (1, 2, 4, 8)
@@ -53,16 +54,27 @@ class Kind(enum.IntEnum):
     EVICT2 = 13
     FENCE = 14
     SECOND_MERGE = 15
+    MASKED = 16
+    GRANT = 17
+    CLEAN1 = 18
+    YIELD1 = 19
+    OUTSIDE = 20
 
 
-LAST_KIND = {1: Kind.EVICT2, 2: Kind.FENCE, 3: Kind.SECOND_MERGE}
-PORT_KINDS = frozenset((Kind.ISSUE, Kind.REPLY, Kind.FENCE))
+# The kinds of each version. Version 4 is that of a cache by itself: it has no level two.
+KINDS = {
+    1: frozenset(range(1, 14)),
+    2: frozenset(range(1, 15)),
+    3: frozenset(range(1, 16)),
+    4: frozenset((*range(1, 9), 14, *range(16, 21))),
+}
+PORT_KINDS = frozenset((Kind.ISSUE, Kind.REPLY, Kind.FENCE, Kind.MASKED))
 
 
 @dataclass(frozen=True)
 class Header:
     """The shape that a trace is of. `block` is the bytes of a block, and `factor` the blocks of a second-level block,
-    which is 1 before version 3."""
+    which is 1 but in version 3. Version 4 is that of a cache by itself."""
 
     ports: int
     banks: int
@@ -213,16 +225,21 @@ class Fill1(Event):
 
 
 @dataclass(frozen=True)
-class Evict1(Event):
-    """Level one gives up a line. `data` are the bytes under the mask, rising."""
+class _Carried(Event):
+    """Bytes of a block under a mask, rising."""
 
-    kind = Kind.EVICT1
     block: int
     mask: int
     data: bytes
 
     def encode(self) -> bytes:
         return EVICT1.pack(self.block, self.mask) + self.data
+
+
+class Evict1(_Carried):
+    """Level one gives up a line. `data` are the bytes under the mask, rising."""
+
+    kind = Kind.EVICT1
 
 
 @dataclass(frozen=True)
@@ -294,6 +311,57 @@ class Evict2(Event):
 
     def encode(self) -> bytes:
         return struct.pack(f"<I{len(self.masks)}Q", self.second, *self.masks) + b"".join(self.parts)
+
+
+@dataclass(frozen=True)
+class Masked(Event):
+    """A port of a cache by itself sends a request for the bytes of a block under a mask. `data` is what a store writes
+    there, rising, and empty for a load."""
+
+    kind = Kind.MASKED
+    op: Op
+    tag: int
+    block: int
+    mask: int
+    data: bytes = b""
+
+    def encode(self) -> bytes:
+        return MASKED.pack(self.op, self.tag, 0, self.block, self.mask) + self.data
+
+
+@dataclass(frozen=True)
+class _Right(Event):
+    """An event about the right to write a block, in a cache by itself."""
+
+    block: int
+
+    def encode(self) -> bytes:
+        return BLOCK.pack(self.block)
+
+
+class Grant(_Right):
+    """Level one gets the right to write a block that it has."""
+
+    kind = Kind.GRANT
+
+
+class Yield1(_Right):
+    """Level one gives up the right to write a block, and keeps its line."""
+
+    kind = Kind.YIELD1
+
+
+class Clean1(_Carried):
+    """Level one of a cache by itself writes a line's dirty bytes back and keeps the line. `data` are the bytes under
+    the mask, rising."""
+
+    kind = Kind.CLEAN1
+
+
+class Outside(_Carried):
+    """What is below and beside a cache by itself writes bytes of a block. `data` are the bytes under the mask, rising."""
+
+    kind = Kind.OUTSIDE
 
 
 @dataclass(frozen=True)

@@ -13,7 +13,7 @@ loop-i-preserved c count are =
 
 pub returns : goal.returns
 returns c count are =
-    let all : c.loop-i.i ≡ 37 = omega arith in
+    let all : c.loop-i.i ≡ 44 = omega arith in
     c.loop-i.invariant count are
     ∙ ap (λ (n : ℕ). c.args.tallies.now.items
     ++ map (tally_of c.args.bank count) (filter (can_reach c.args.shape.now) (take n kinds))) all

@@ -5,5 +5,5 @@ use Rattle.count_coverage.proofs.ports.counted.Given as goal
 
 abbrev pub invariant-loop-at : goal.invariant-loop-at
 invariant-loop-at g l =
-    (n : ℕ) → n < 10 → get_or l.counts n 0
+    (n : ℕ) → n < 13 → get_or l.counts n 0
     ≡ port_reached (take l.at (get_or (g.L.LogRecords.lists l.logs) l.port [])) (port_point_at n)

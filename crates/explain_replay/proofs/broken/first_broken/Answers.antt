@@ -12,6 +12,7 @@ use Rattle.bank_state.specs.Bytes.{bank_part}
 use Rattle.lf_replay.specs.Step.{StepView, IsStepAfter, bank_after}
 use Rattle.explain_history.specs.BankOrder.{records_at}
 use Rattle.explain_history.specs.Touching.{record_at}
+use Rattle.explain_history.specs.declared.request.Asked.{Asked}
 use Rattle.explain_replay.specs.Broken.{IsTold}
 use Rattle.explain_replay.specs.Request.{requested}
 use Rattle.explain_history.proofs.RecordsAt.{taken_more}
@@ -99,7 +100,7 @@ returns-in-Err-Rule c =
     c.in_ok-request-in-Err-Rule.ensures ∙ ap (λ n. requested (records_at rs (take n places)) item.log item.event)
     (omega arith) in
     let told : IsTold broken rule (requested before item.log item.event) item shape now =
-    subst (λ (request : Option ℕ). IsTold broken rule request item shape now) named
+    subst (λ (request : Option Asked). IsTold broken rule request item shape now) named
     (rw c.in-Err-Rule.rule-is at (c.in_ok-broken-in-Err-Rule.ensures shape memory c.args.bank before stands)) in
     record {
       before = before;

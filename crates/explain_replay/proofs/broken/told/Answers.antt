@@ -4,12 +4,7 @@ use Rattle.lf_rules.specs.Outcomes.{first_local}
 use Rattle.lf_replay.specs.Step.{bank_after}
 use Rattle.explain_replay.specs.Addresses.{addresses_of, due_addresses}
 use Rattle.explain_replay.specs.Named.{blocks_of, AreNamed}
-use Rattle.explain_replay.proofs.Requests.{request_small}
 use Rattle.explain_replay.proofs.broken.told.Goals as goal
-
-pub addresses_of-requires-clause-request : goal.addresses_of-requires-clause-request
-addresses_of-requires-clause-request c = request_small c.args.shape.now c.args.request c.requires.in_range.block_size
-    c.requires.request
 
 pub returns : goal.returns
 returns c = λ shape memory bank rs stands.

@@ -6,6 +6,7 @@ use Rattle.std.proofs.lemmas.List.Sums.{fold-append}
 use Rattle.lf_rules.specs.declared.event.Record.{Record}
 use Rattle.explain_history.specs.BankOrder.{records_at}
 use Rattle.explain_history.specs.Touching.{record_at}
+use Rattle.explain_history.specs.declared.request.Asked.{Asked}
 use Rattle.explain_history.proofs.RecordsAt.{taken_more}
 use Rattle.explain_replay.specs.Request.{waits_after, waiting}
 use Rattle.explain_replay.proofs.request.waiting.Goals as goal
@@ -21,7 +22,7 @@ loop-place-preserved c =
     let here = record_at rs (get_or places i None) in
     let before = records_at rs (take i places) in
     c.in_ok-wait.ensures
-    ∙ ap (λ (queue : List ℕ). fold (waits_after port tag) queue (option_to_list here)) c.loop-place.invariant
+    ∙ ap (λ (queue : List Asked). fold (waits_after port tag) queue (option_to_list here)) c.loop-place.invariant
     ∙ sym (ap (λ (xs : List Record). waiting xs port tag) (taken_more rs places i here lt refl)
     ∙ fold-append (waits_after port tag) [] before (option_to_list here))
 

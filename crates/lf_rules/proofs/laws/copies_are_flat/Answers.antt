@@ -1,4 +1,4 @@
-use Rattle.lf_rules.proofs.CopyRuns.{copy_runs_are_runs}
+use Rattle.lf_rules.proofs.ByBelow.{copy_runs_are_runs}
 use Rattle.lf_rules.proofs.laws.copies_are_flat.Goals as goal
 
 pub returns : goal.returns

@@ -11,6 +11,13 @@ returns-in-Issue-clause-waits c tag h =
     ∙ set_at ws c.in-Issue.tag tag true (omega (arith, c.told-waits))
     ∙ sym (ap (λ e. waits_after tag (get_or ws tag false) (event_of e)) c.in-Issue.is)
 
+pub returns-in-Masked-clause-waits : goal.returns-in-Masked-clause-waits
+returns-in-Masked-clause-waits c tag h =
+    let ws = c.args.waits.now in
+    ap (λ n. get_or (set ws n true) tag false) c.from-in-Masked.ensures
+    ∙ set_at ws c.in-Masked.tag tag true (omega (arith, c.told-waits))
+    ∙ sym (ap (λ e. waits_after tag (get_or ws tag false) (event_of e)) c.in-Masked.is)
+
 pub returns-in-Reply-clause-waits : goal.returns-in-Reply-clause-waits
 returns-in-Reply-clause-waits c tag h =
     let ws = c.args.waits.now in
@@ -22,4 +29,5 @@ pub returns-in_default-clause-waits : goal.returns-in_default-clause-waits
 returns-in_default-clause-waits c tag h =
     sym (waits_same tag (get_or c.args.waits.now tag false) c.args.event.now
     (λ op t size address bytes e. c.in_default.not-Issue op t size address bytes e)
+    (λ op t block mask bytes e. c.in_default.not-Masked op t block mask bytes e)
     (λ t size bytes e. c.in_default.not-Reply t size bytes e))

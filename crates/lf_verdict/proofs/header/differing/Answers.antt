@@ -7,5 +7,8 @@ returns-then-from-shape-3-clause-some c = search rules
 pub returns-then-from-shape-4-clause-some : goal.returns-then-from-shape-4-clause-some
 returns-then-from-shape-4-clause-some c = search rules
 
+pub returns-then-from-shape-5-clause-some : goal.returns-then-from-shape-5-clause-some
+returns-then-from-shape-5-clause-some c = search rules
+
 pub returns-clause-none : goal.returns-clause-none
 returns-clause-none c = search rules

@@ -9,6 +9,7 @@ ghost use Rattle.lf_rules.specs.InRange.{IsShape};
 ghost use Rattle.lf_codec.specs.Lent.{IsSpelling};
 ghost use Rattle.lf_logs.specs.Reordering.{CanKeep, HasOrdered};
 ghost use Rattle.lf_replay.specs.Bytes.{bank_part};
+ghost use Rattle.lf_replay.specs.AnyView.{shape_of};
 ghost use Rattle.lf_replay.specs.Step.{IsForStep};
 ghost use Rattle.lf_stats.specs.Tally.{IsCounted, IsSteady};
 ghost use Rattle.lf_verdict.specs.Standing.{IsBankAt, IsBankSettled};
@@ -76,7 +77,7 @@ fn judge_rules(
 ) -> Result<(), NoMemory>
     requires { IsForStep step.old item.now }
     ensures bank { step.new.bank ≡ step.old.bank }
-    ensures shape { step.new.state.shape ≡ step.old.state.shape }
+    ensures shape { shape_of step.new.state ≡ shape_of step.old.state }
     ensures judged { (shape : Shape) (memory : FlatMemory) (bank : ℕ) (rs : List Record) →
         item.now.number ≡ length rs
         → IsBankAt shape memory bank rs step.old outcome.old
@@ -104,7 +105,7 @@ fn judge_next(
     requires step { IsForStep step.old item.now }
     requires steady { IfSome count.old IsSteady }
     ensures bank { step.new.bank ≡ step.old.bank }
-    ensures shape { step.new.state.shape ≡ step.old.state.shape }
+    ensures shape { shape_of step.new.state ≡ shape_of step.old.state }
     ensures judged { (shape : Shape) (memory : FlatMemory) (bank : ℕ) (rs : List Record) →
         item.now.number ≡ length rs
         → IsBankAt shape memory bank rs step.old outcome.old

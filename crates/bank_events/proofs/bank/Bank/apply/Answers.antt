@@ -1,3 +1,4 @@
+use Rattle.std.proofs.Common.{refl}
 use Rattle.bank_events.proofs.Views.{answer_shown}
 use Rattle.bank_events.proofs.bank.Bank.apply.Goals as goal
 
@@ -57,3 +58,23 @@ returns-in-Fill2 g c = answer_shown c.args.item.now _ _ c.event.ensures.shown c.
 pub returns-in-Evict2 : goal.returns-in-Evict2
 returns-in-Evict2 g c = answer_shown c.args.item.now _ _ c.event.ensures.shown c.in-Evict2.is _ _ _
     (c.evict2.ensures c.args.item.now.log)
+
+pub returns-in-Masked : goal.returns-in-Masked
+returns-in-Masked g c = answer_shown c.args.item.now _ _ c.event.ensures.shown c.in-Masked.is _ _ _
+    (λ waiting regs2 are held. (refl, refl))
+
+pub returns-in-Grant : goal.returns-in-Grant
+returns-in-Grant g c = answer_shown c.args.item.now _ _ c.event.ensures.shown c.in-Grant.is _ _ _
+    (λ waiting regs2 are held. (refl, refl))
+
+pub returns-in-Clean1 : goal.returns-in-Clean1
+returns-in-Clean1 g c = answer_shown c.args.item.now _ _ c.event.ensures.shown c.in-Clean1.is _ _ _
+    (λ waiting regs2 are held. (refl, refl))
+
+pub returns-in-Yield1 : goal.returns-in-Yield1
+returns-in-Yield1 g c = answer_shown c.args.item.now _ _ c.event.ensures.shown c.in-Yield1.is _ _ _
+    (λ waiting regs2 are held. (refl, refl))
+
+pub returns-in-Outside : goal.returns-in-Outside
+returns-in-Outside g c = answer_shown c.args.item.now _ _ c.event.ensures.shown c.in-Outside.is _ _ _
+    (λ waiting regs2 are held. (refl, refl))

@@ -1,8 +1,13 @@
-use Rattle.std.proofs.Common.{◌<◌, List, [], refl, sym, subst}
+use Rattle.std.proofs.Common.{◌<◌, List, [], refl, sym, subst, arith}
 use Rattle.std.specs.List.{AllByRecursion}
 use mathlib.Core.Path.{fun_ext}
+use Rattle.lf_rules.specs.declared.shape.Below.{Below}
+use Rattle.lf_rules.specs.declared.shape.Below.TheVariants.{LevelTwo, Outside}
+use Rattle.lf_rules.specs.declared.shape.Level.{Level}
 use Rattle.lf_rules.specs.Address.{flat_memory}
+use Rattle.lf_rules.specs.InRange.{most_entries, IsLevel}
 use Rattle.lf_rules.specs.State.{Request}
+use Rattle.lf_rules.proofs.InRange.{level_wider}
 use Rattle.lf_mshr.specs.Alike.{AreAlike}
 use Rattle.lf_mshr.specs.RegisterFile.{RegisterFile}
 use Rattle.lf_mshr.specs.declared.level_one.Request1.{Request1}
@@ -13,6 +18,19 @@ use Rattle.bank_events.specs.Known.{Known}
 use Rattle.bank_events.specs.Targets.{IsTarget1, IsTarget2}
 use Rattle.bank_events.proofs.Opening.{opening_held}
 use Rattle.bank_events.proofs.bank.Bank.new.Goals as goal
+
+-- the most entries that a level of any shape may have
+at_most : (below : Below) (level : Level) → IsLevel (most_entries below) level → IsLevel 64 level
+at_most LevelTwo level is = level_wider 8 64 (omega arith) level is
+at_most Outside level is = is
+
+pub new-requires-clause-in_range : goal.new-requires-clause-in_range
+new-requires-clause-in_range g c =
+    (at_most c.args.shape.now.below c.args.shape.now.level1 c.requires.in_range.level1).organisation
+
+pub new-2-requires-clause-in_range : goal.new-2-requires-clause-in_range
+new-2-requires-clause-in_range g c =
+    (at_most c.args.shape.now.below c.args.shape.now.level2 c.requires.in_range.level2).organisation
 
 pub returns-clause-new : goal.returns-clause-new
 returns-clause-new g c = record {

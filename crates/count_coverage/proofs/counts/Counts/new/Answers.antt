@@ -11,7 +11,7 @@ abbrev at_first : Counts
 at_first =
     let zeros : List ℕ = replicate 65 0 in
     record {
-      kinds = replicate 37 0;
+      kinds = replicate 44 0;
       dirty_blocks = zeros;
       registers = zeros;
       targets = zeros;
@@ -31,4 +31,4 @@ none_of measures.SecondTargets n = none 65 n
 none_of measures.SecondField n = none 65 n
 
 pub returns : goal.returns
-returns c = record { of_kinds = λ n below. none 37 n; of_numbers = λ measure n below. none_of measure n }
+returns c = record { of_kinds = λ n below. none 44 n; of_numbers = λ measure n below. none_of measure n }

@@ -7,4 +7,4 @@ use Rattle.explain_rule.proofs.state.BlocksDisplay.fmt.Given as goal
 abbrev pub invariant-loop-named : goal.invariant-loop-named
 invariant-loop-named g l =
     IsPlainFormatter l.initial.f
-    → HasWritten g.W.Write.write_str_gives l.initial.f (blocks_text (take l.named-index l.self.0.now)) l.f
+    → HasWritten g.W.Write.write_str_gives l.initial.f (blocks_text l.self.below (take l.named-index l.self.all.now)) l.f

@@ -8,5 +8,5 @@ use Rattle.explain_rule.proofs.state.LinesDisplay.fmt.Goals as goal
 pub returns-clause-writes : goal.returns-clause-writes
 returns-clause-writes g c plain ok =
     let state = c.args.self.now.0.now in
-    has_written_of_eq _ _ _ _ _ (sym (grouped (codes "  level-one line        ") (line1_text state.line1)
+    has_written_of_eq _ _ _ _ _ (sym (grouped (codes "  level-one line        ") (line1_text state.line1 state.shared)
     (10 ∷ codes "  level-two line        ") (line2_text state.line2) (10 ∷ []))) (c.write.ensures.writes plain ok)

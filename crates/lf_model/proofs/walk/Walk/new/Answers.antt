@@ -6,7 +6,7 @@ use Rattle.lf_rules.specs.declared.event.Record.{Record}
 use Rattle.lf_rules.specs.declared.shape.Shape.{Shape}
 use Rattle.lf_rules.specs.Address.{flat_memory}
 use Rattle.lf_rules.specs.State.{State, opening}
-use Rattle.model_plain.specs.Plain.{state_of}
+use Rattle.lf_model.specs.System.{state_of}
 use Rattle.lf_model.specs.Walk.{left_of, recheck_from}
 use Rattle.lf_model.specs.Recheck.{lists_of}
 use Rattle.lf_model.proofs.WalkStart.{left_all, all_zero}

@@ -33,5 +33,5 @@ invariant_of-self g c =
       rows = ap (are_in_rows file.entries) c.push.ensures.order
           ∙ rows-push file.entries order (place, item) file.rows is;
       some_entry = file.some_entry;
-      limit = subst (λ n. n * file.entries ≤ 1024) (sym c.push.ensures.registers) file.limit;
+      limit = subst (λ n. n * file.entries ≤ 4096) (sym c.push.ensures.registers) file.limit;
     }

@@ -26,7 +26,7 @@ invariant_of-file g c =
           c.args.block (holding-below r.registers (held_of order) r.below c.args.holder c.args.block c.requires)
           c.requires file.rows;
       some_entry = file.some_entry;
-      limit = subst (λ n. n * file.entries ≤ 1024) (sym c.release_of.ensures.registers) file.limit;
+      limit = subst (λ n. n * file.entries ≤ 4096) (sym c.release_of.ensures.registers) file.limit;
     }
 
 pub returns-clause-others : goal.returns-clause-others

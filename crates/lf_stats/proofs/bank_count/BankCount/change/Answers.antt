@@ -11,3 +11,10 @@ returns-in-Fill1-clause-held c next holds alike told =
     c.from-in-Fill1.ensures (c.release.ensures holds told) in
     subst (λ event. IsHeld c.release.new.self (held_by next event holds))
     (ap event_of (sym c.in-Fill1.is) ∙ c.event.ensures.shown) ended
+
+pub returns-in-Grant-clause-held : goal.returns-in-Grant-clause-held
+returns-in-Grant-clause-held c next holds alike told =
+    let ended = subst (λ block. IsHeld c.release-in-Grant.new.self (filter (λ h. not (h.0 == block)) holds))
+    c.from-in-Grant.ensures (c.release-in-Grant.ensures holds told) in
+    subst (λ event. IsHeld c.release-in-Grant.new.self (held_by next event holds))
+    (ap event_of (sym c.in-Grant.is) ∙ c.event.ensures.shown) ended

@@ -1,0 +1,10 @@
+pub mod BlockBytes
+pub mod Queues
+pub mod OneMore
+pub mod Judged
+pub mod Replies
+pub mod LinesPlaced
+pub mod Shown
+pub mod Slices
+pub mod Heads
+pub mod Unbroken

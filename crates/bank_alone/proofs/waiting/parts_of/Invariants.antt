@@ -1,0 +1,7 @@
+use Rattle.std.proofs.Common.{◌≡◌, take}
+use Rattle.lf_rules.specs.OuterTable.{parts_of}
+use Rattle.bank_alone.specs.Waiters.{waiters_of}
+use Rattle.bank_alone.proofs.waiting.parts_of.Given as goal
+
+abbrev pub invariant-loop-t : goal.invariant-loop-t
+invariant-loop-t l = l.mask.0 ≡ parts_of (waiters_of (take l.t-index l.waiting) l.block)
