@@ -2,9 +2,9 @@
 
 ghost use Rattle.std.specs.Prelude.{◌≡◌, IfOk, OnOk};
 ghost use Rattle.hex.specs.Hex.{encode_lower};
-ghost use Rattle.text_print.specs.Text.{hexadecimal};
 ghost use Rattle.serde_json.specs.Data.{string, object, put as with_member, no_members};
 ghost use Rattle.serde_json.specs.View.{view, members_view};
+ghost use Rattle.explain_json.specs.Fields.{hex, masks_data};
 
 use lf_rules::{Mask, NoMemory};
 use serde_json::{Map, Value, put};
@@ -55,7 +55,7 @@ impl Object {
 
 /// A number as `0x` and small hexadecimal digits, as addresses and masks are written.
 pub(crate) fn hexadecimal(alloc: Global, number: u64) -> Result<Value, NoMemory>
-    ensures { IfOk result (λ value. view value ≡ string (hexadecimal number)) }
+    ensures { IfOk result (λ value. view value ≡ hex number) }
 {
     let text = format!(in alloc; "0x{number:x}")?;
     Ok(Value::String(text))
@@ -70,10 +70,12 @@ pub(crate) fn digits(alloc: Global, bytes: &[u8]) -> Result<Value, NoMemory>
 }
 
 /// An array of masks.
-pub(crate) fn masks_json(alloc: Global, masks: &[Mask]) -> Result<Value, NoMemory> {
+pub(crate) fn masks_json(alloc: Global, masks: &[Mask]) -> Result<Value, NoMemory>
+    ensures { IfOk result (λ value. view value ≡ masks_data masks.now) }
+{
     let mut list = Vec::new(alloc);
     for mask in masks {
         list.push(hexadecimal(alloc, mask.0)?)?;
     }
-    Ok(Value::Array(list))
+    Ok(Value::from(list))
 }

@@ -1,4 +1,4 @@
--- What is told of what broke first in bytes that have no fault of the format.
+-- What is told of what broke first in bytes that begin a trace.
 use Rattle.std.proofs.Common.{◌≡◌, ℕ, List, Option, Some, length, sym, ap, ◌∙◌, subst}
 use Rattle.std.specs.List.{AllByRecursion}
 use Rattle.lf_rules.specs.Address.{flat_memory}

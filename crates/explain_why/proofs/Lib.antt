@@ -2,7 +2,6 @@ mod BrokenSoFar
 mod Records
 mod Waits
 mod Incomplete
-pub mod Earliest
 mod SoFar
 pub mod Split
 mod Taken

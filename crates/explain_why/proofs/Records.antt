@@ -12,6 +12,7 @@ use Rattle.lf_verdict.specs.declared.session.breaking.PartFault.TheVariants as p
 use Rattle.lf_verdict.specs.declared.session.breaking.Broken.{Broken}
 use Rattle.lf_verdict.specs.declared.session.breaking.Broken.TheVariants as broken
 use Rattle.lf_verdict.specs.Breaking.{first_offset, IsFaultOfPart}
+use Rattle.lf_verdict.specs.Final.{IsToldFirst}
 use Rattle.lf_verdict.specs.declared.answer.Fault.{Fault}
 use Rattle.lf_verdict.specs.declared.answer.Fault.TheVariants as faults
 use Rattle.lf_verdict.specs.Outcome.{IsFaultOfLogs, IsNo}
@@ -25,8 +26,7 @@ use Rattle.lf_verdict.specs.Outcome.{IsDecidedOutcome, IsYes, IsOutcomeOf}
 use Rattle.explain_lines.specs.Marks.{besides, besides_of}
 use Rattle.explain_why.specs.declared.not_legal.NotLegal.{NotLegal}
 use Rattle.explain_why.specs.Cause.{HasBankOf, IsCause}
-use Rattle.explain_why.specs.NotLegal.{HasBankOfFirst, IsEarliestIf, as_fault, upon_of, IsFirstCause, IsSomeTraceFor}
-use Rattle.explain_why.specs.NotLegal.{IsNotLegal}
+use Rattle.explain_why.specs.NotLegal.{HasBankOfFirst, as_fault, upon_of, IsFirstCause, IsSomeTraceFor, IsNotLegal}
 
 -- ---- what is told
 
@@ -51,13 +51,13 @@ part_bank shape memory records (parts.Double bank k) is = tt
 part_bank shape memory records (parts.Port port at rule) is = tt
 part_bank shape memory records (parts.Bank bank number rule) is = is.is_bank
 
-pub first_bank : (shape : Shape) (bytes : List ℕ) (earliest : Option Broken) → IsEarliestIf shape bytes earliest →
+pub first_bank : (shape : Shape) (bytes : List ℕ) (earliest : Option Broken) → IsToldFirst shape bytes earliest →
     HasBankOfFirst shape earliest
 first_bank shape bytes None is = tt
 first_bank shape bytes (Some (broken.Header field)) is = tt
-first_bank shape bytes (Some (broken.Part part None)) is = absurd is
+first_bank shape bytes (Some (broken.Part part None)) is = absurd is.earliest
 first_bank shape bytes (Some (broken.Part part (Some upon))) is =
-    part_bank shape (flat_memory is.memory) _ part is.first.broke.is
+    part_bank shape (flat_memory is.earliest.memory) _ part is.earliest.first.broke.is
 
 -- ---- a yes
 
@@ -91,7 +91,7 @@ module _ (shape : Shape) (bytes : List ℕ) (of : IsSomeTraceFor shape bytes) (p
 
   -- What was found in it is why the trace is not legal.
   pub is_not_legal : (time : ℕ → ℕ → Option (List ℕ)) (most : ℕ) (fault : Fault) (earliest : Option Broken)
-      (why : NotLegal) → IsEarliestIf shape bytes earliest → why.records.records ≡ packing.records.records
+      (why : NotLegal) → IsToldFirst shape bytes earliest → why.records.records ≡ packing.records.records
       → besides why.marks ≡ besides_of time packing.start packing.records.records
       → IsCause shape packing.memory.items why.records.records most fault why.fault → why.upon ≡ upon_of earliest
       → IsFirstCause shape packing.memory.items why.records.records most fault earliest why.first

@@ -1,10 +1,9 @@
--- What has been read of bytes that have no fault yet.
-use Rattle.std.proofs.Common.{◌≡◌, ℕ, ◌+◌, ◌*◌, ◌<◌, ◌≤◌, ◌^◌, List, [], ◌∷◌, ◌++◌, length, Option, None, Some, take}
-use Rattle.std.proofs.Common.{drop, sym, ap, ◌∙◌, arith, take-append-drop, refl, subst, append-nil}
+-- What has been read of bytes that begin a trace.
+use Rattle.std.proofs.Common.{◌≡◌, ℕ, ◌+◌, ◌*◌, ◌<◌, ◌≤◌, ◌^◌, List, [], ◌∷◌, ◌++◌, length, Some, sym, ap, ◌∙◌, arith}
+use Rattle.std.proofs.Common.{subst, append-nil}
 use Rattle.std.specs.List.{AllByRecursion}
 use Rattle.std.proofs.lemmas.List.{length-append}
 use Rattle.std.proofs.lemmas.Nat.{mul-le}
-use Rattle.std.proofs.lemmas.Option.{none-some}
 use Rattle.lf_rules.specs.Fits.{Bytes}
 use Rattle.lf_rules.specs.declared.event.Record.{Record}
 use Rattle.lf_codec.proofs.EachKind.{length-fixed_bytes, data_len_again, fixed_passes}
@@ -13,42 +12,18 @@ use Rattle.lf_codec.proofs.Judged.{judged_passed}
 use Rattle.lf_codec.proofs.Numbers.{length-u32_bytes}
 use Rattle.lf_codec.proofs.Soundness.{block_at_most_64, data_limit, most_data-le, fixed_len-le}
 use Rattle.lf_codec.specs.Checks.{fixed_checks}
-use Rattle.lf_codec.specs.Laws.{AreBytes, FaultsSoFarAreNotTruncated, FaultsStand, WhatStandsBeforeIsGiven}
-use Rattle.lf_codec.specs.Laws.{WhatIsReadFits}
+use Rattle.lf_codec.specs.Laws.{AreBytes, WhatIsReadFits}
 use Rattle.lf_codec.specs.Layout.{u32_bytes, record_bytes, fixed_bytes, data_of, kind_of}
 use Rattle.lf_codec.specs.Lengths.{bytes_len}
-use Rattle.lf_codec.specs.Reading.{Reading, reading_of, header_of, trace_fault, fault_so_far}
+use Rattle.lf_codec.specs.Reading.{Reading, reading_of, header_of}
 use Rattle.lf_codec.specs.Sound.{IsInRange}
 use Rattle.lf_codec.specs.Trace.{FitsHeader, FitsIn, FitsTrace}
-use Rattle.lf_codec.specs.declared.fault.CodecFault.{CodecFault}
 use Rattle.lf_codec.specs.declared.header.Header.{Header}
 use Rattle.lf_verdict.proofs.Lengths.{first_offset_is}
 use Rattle.lf_verdict.specs.Breaking.{first_offset}
 use Rattle.explain_why.specs.declared.packing.Packing.{Packing}
 use Rattle.explain_why.specs.Packing.{HasMemory, IsPackingSoFar}
 use Rattle.explain_why.specs.Taken.{HasTakenAll}
-
--- ---- the bytes before a fault
-
-module _ (other : FaultsSoFarAreNotTruncated) (stand : FaultsStand) (given : WhatStandsBeforeIsGiven) (bytes : List ℕ)
-    (f : CodecFault) (are : AreBytes bytes) (is : trace_fault bytes ≡ Some f) where
-  -- where no fault stands in the bytes so far, none stands in those before
-  none_before : fault_so_far bytes ≡ None → (found : Option CodecFault) → fault_so_far (take f.offset bytes) ≡ found →
-      fault_so_far (take f.offset bytes) ≡ None
-  none_before none None e = e
-  none_before none (Some g) e =
-      let stands = stand (take f.offset bytes) (drop f.offset bytes) g e in
-      absurd (none-some g
-      (sym none ∙ ap fault_so_far (sym (take-append-drop f.offset bytes)) ∙ stands.so_far))
-
-  fine_at : (found : Option CodecFault) → fault_so_far bytes ≡ found → fault_so_far (take f.offset bytes) ≡ None
-  fine_at None none = none_before none (fault_so_far (take f.offset bytes)) refl
-  fine_at (Some g) so_far =
-      let both : Some g ≡ Some f = sym ((other bytes g).0 so_far).0 ∙ is in
-      (given bytes f are (so_far ∙ both)).fine
-
-  pub fine_before : fault_so_far (take f.offset bytes) ≡ None
-  fine_before = fine_at (fault_so_far bytes) refl
 
 -- ---- what has been read
 

@@ -1,5 +1,5 @@
 -- Laws of what was taken from a reader.
-use Rattle.std.proofs.Common.{◌≡◌, ◌≢◌, ◌⊎◌, inl, inr, ℕ, ◌-◌, ◌≤◌, List, [], ◌++◌, take, drop, Some}
+use Rattle.std.proofs.Common.{◌≡◌, ◌≢◌, ◌⊎◌, inl, inr, ℕ, ◌-◌, ◌≤◌, List, [], ◌++◌, take, drop, Option, Some}
 use Rattle.std.proofs.Common.{sym, ap, ◌∙◌, subst, arith}
 use Rattle.std.proofs.Math.Seq.{take-add}
 use Rattle.std.proofs.lemmas.List.{append-nil}
@@ -9,7 +9,7 @@ use Rattle.lf_codec.specs.declared.fault.CodecCause.TheVariants.{NoMemory}
 use Rattle.lf_codec.specs.declared.fault.CodecFault.{CodecFault}
 use Rattle.lf_codec.specs.declared.header.Header.{Header}
 use Rattle.lf_codec.specs.Laws.{IsSomeTrace}
-use Rattle.lf_codec.specs.Reader.{HasRead, RanOut}
+use Rattle.lf_codec.specs.Reader.{HasRead}
 use Rattle.lf_codec.specs.Reading.{Reading}
 use Rattle.lf_codec.specs.Trace.{IsTrace}
 use Rattle.lf_codec.proofs.TraceLaws.{reading_is_exact}
@@ -29,15 +29,15 @@ up_to bytes at end le = sym (take-add at (end - at) bytes) ∙ ap (λ n. take n 
 
 -- ---- faults
 
--- A reader that has failed by a fault of the format has read the bytes.
-pub unless_out : (r : Reading) (fed : List ℕ) (memory : List (ℕ × Bytes)) (records : List Record) (f : CodecFault)
-    → HasRead r fed memory records ⊎ RanOut r fed memory records → r.fault ≡ Some f → f.cause ≢ NoMemory
-    → HasRead r fed memory records
-unless_out r fed memory records f (inl read) failed other = read
-unless_out r fed memory records f (inr ran) failed other =
-    let both : Some ran.fault ≡ Some f = sym ran.failed ∙ failed in
-    let same : ran.fault ≡ f = cc in
-    absurd (other (ap (λ (g : CodecFault). g.cause) (sym same) ∙ ran.cause))
+-- Of a reader that has failed by a fault of the format holds what does unless memory ran out.
+pub unless_out : {P Out : Type 0} (fault : Option CodecFault) (f : CodecFault)
+    → (Out → (g : CodecFault) × (fault ≡ Some g) × (g.cause ≡ NoMemory)) → P ⊎ Out → fault ≡ Some f
+    → f.cause ≢ NoMemory → P
+unless_out fault f ran (inl holds) failed other = holds
+unless_out fault f ran (inr out) failed other =
+    let both : Some (ran out).0 ≡ Some f = sym (ran out).1 ∙ failed in
+    let same : (ran out).0 ≡ f = cc in
+    absurd (other (ap (λ (g : CodecFault). g.cause) (sym same) ∙ (ran out).2))
 
 -- A reader that was fed a trace is at its end.
 pub is_at_end : (bytes : List ℕ) (is : IsSomeTrace bytes) (r : Reading) (memory : List (ℕ × Bytes))

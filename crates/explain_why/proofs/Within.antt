@@ -1,10 +1,12 @@
 -- The memory and the records of a trace, and where they stand in its bytes.
-use Rattle.std.proofs.Common.{◌≡◌, ℕ, ◌+◌, ◌≤◌, List, [], ◌∷◌, ◌++◌, length, None, refl, ap, ◌∙◌, inl, inr, arith}
+use Rattle.std.proofs.Common.{◌≡◌, ◌≢◌, ℕ, ◌+◌, ◌≤◌, List, [], ◌∷◌, ◌++◌, length, Option, Some, refl, ap, ◌∙◌}
+use Rattle.std.proofs.Common.{inl, inr, arith}
 use Rattle.std.specs.List.{flat_map}
 use Rattle.std.proofs.lemmas.List.{length-append}
-use Rattle.std.proofs.lemmas.Option.{none-some}
 use Rattle.lf_rules.specs.declared.event.Record.{Record}
 use Rattle.lf_rules.specs.Fits.{Bytes}
+use Rattle.lf_codec.specs.declared.fault.CodecCause.{CodecCause}
+use Rattle.lf_codec.specs.declared.fault.CodecCause.TheVariants.{NoMemory}
 use Rattle.lf_codec.specs.declared.header.Header.{Header}
 use Rattle.lf_codec.specs.Layout.{header_bytes, memory_bytes, record_bytes, end_bytes}
 use Rattle.lf_codec.specs.Reader.{HasRead, UnlessWant, with_records}
@@ -23,9 +25,9 @@ pub as_taken : (r : Reading) (fed : List ℕ) (memory : List (ℕ × Bytes)) (re
 as_taken r fed memory records read = record { are_bytes = read.are_bytes; same = read.same }
 
 -- Where memory did not run out, it holds.
-pub unless_wanted : (P : Type 0) → UnlessWant None P → P
-unless_wanted P (inl want) = absurd (none-some _ want)
-unless_wanted P (inr holds) = holds
+pub unless_wanted : (P : Type 0) (cause : Option CodecCause) → cause ≢ Some NoMemory → UnlessWant cause P → P
+unless_wanted P cause other (inl want) = absurd (other want)
+unless_wanted P cause other (inr holds) = holds
 
 -- ---- the bytes of a trace
 

@@ -1,4 +1,4 @@
--- What broke in the bytes before a fault of the format.
+-- What broke in the records before a fault of the format.
 use Rattle.std.specs.Prelude.{◌≡◌, ◌⊎◌, ℕ, List, [], ◌++◌, Option, Some, None}
 use Rattle.lf_rules.specs.declared.shape.Shape.{Shape}
 use Rattle.lf_codec.specs.Reading.{reading_of}

@@ -12,7 +12,7 @@ use Rattle.lf_verdict.specs.declared.session.breaking.Broken.{Broken}
 use Rattle.lf_verdict.specs.declared.session.breaking.Broken.TheVariants as broken
 use Rattle.lf_verdict.specs.declared.session.breaking.Upon.{Upon}
 use Rattle.lf_verdict.specs.Breaking.{first_offset}
-use Rattle.lf_verdict.specs.Final.{IsEarliest, NoneBrokeInTrace}
+use Rattle.lf_verdict.specs.Final.{IsToldFirst}
 use Rattle.lf_verdict.specs.Legal.{IsTraceFor}
 use Rattle.lf_verdict.specs.Text.{upon_text}
 use Rattle.explain_why.specs.declared.cause.Cause.{Cause}
@@ -49,11 +49,6 @@ abbrev pub HasBankOfFirst : Shape → Option Broken → Type 0
 HasBankOfFirst shape (Some (broken.Part part upon)) = HasBankOf shape (as_fault part)
 HasBankOfFirst shape _ = Unit {0}
 
--- It is what broke first in the bytes, or where nothing is told, no part of a trace in them is at fault.
-abbrev pub IsEarliestIf : Shape → List ℕ → Option Broken → Type 0
-IsEarliestIf shape bytes (Some found) = IsEarliest shape bytes found
-IsEarliestIf shape bytes None = NoneBrokeInTrace shape bytes
-
 abbrev pub IsSomeCause : Shape → List (ℕ × Bytes) → List Record → ℕ → Fault → Option Cause → Type 0
 IsSomeCause shape memory rs most fault (Some cause) = IsCause shape memory rs most fault cause
 IsSomeCause shape memory rs most fault None = ⊥
@@ -82,7 +77,7 @@ pub record IsSomeTraceFor (shape : Shape) (bytes : List ℕ) : Type 0 where
 pub record IsNotLegal (shape : Shape) (bytes : List ℕ) (time : ℕ → ℕ → Option (List ℕ)) (most : ℕ) (fault : Fault)
     (earliest : Option Broken) (why : NotLegal) : Type 0 where
   pub of : IsSomeTraceFor shape bytes
-  pub is_earliest : IsEarliestIf shape bytes earliest
+  pub is_earliest : IsToldFirst shape bytes earliest
   pub records : why.records.records ≡ of.trace.records
   pub marks : besides why.marks ≡ besides_of time (first_offset of.trace.header of.memory) of.trace.records
   pub cause : IsCause shape of.memory why.records.records most fault why.fault

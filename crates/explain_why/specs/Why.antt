@@ -1,5 +1,5 @@
 -- Why a verdict is what it is.
-use Rattle.std.specs.Prelude.{◌≡◌, ℕ, Bool, true, false, List, length, take, ◌++◌, Option, Some, None}
+use Rattle.std.specs.Prelude.{◌≡◌, ℕ, Bool, true, false, List, length, ◌++◌, Option, Some, None}
 use Rattle.lf_rules.specs.declared.shape.Shape.{Shape}
 use Rattle.lf_rules.specs.declared.event.Record.{Record}
 use Rattle.lf_codec.specs.declared.fault.CodecFault.{CodecFault}
@@ -17,6 +17,7 @@ use Rattle.lf_verdict.specs.declared.answer.Outcome.TheVariants as outcomes
 use Rattle.lf_verdict.specs.declared.answer.Refusal.{Refusal}
 use Rattle.lf_verdict.specs.declared.answer.Refusal.TheVariants as refusals
 use Rattle.lf_verdict.specs.declared.session.breaking.Broken.{Broken}
+use Rattle.lf_verdict.specs.Final.{IsToldFirst}
 use Rattle.lf_verdict.specs.Legal.{IsTraceFor}
 use Rattle.lf_verdict.specs.Outcome.{IsDecidedOutcome, IsOutcomeOf}
 use Rattle.explain_why.specs.declared.why.Why.{Why}
@@ -24,7 +25,7 @@ use Rattle.explain_why.specs.declared.why.Why.TheVariants.{No, Yes, NotComplete,
 use Rattle.lf_verdict.specs.Incomplete.{IsIncompleteIn}
 use Rattle.explain_why.specs.BrokenBefore.{HasBrokenBefore, broken_before_text}
 use Rattle.explain_why.specs.NotComplete.{IsNotComplete, not_complete_text}
-use Rattle.explain_why.specs.NotLegal.{IsEarliestIf, IsNotLegal, told_fault, not_legal_text}
+use Rattle.explain_why.specs.NotLegal.{IsNotLegal, told_fault, not_legal_text}
 
 -- This is what the logs of the trace in the bytes use at most.
 pub record IsUsageOf (shape : Shape) (bytes : List ℕ) (usage : Usage) : Type 0 where
@@ -43,10 +44,6 @@ abbrev pub is_told : Outcome → Bool
 is_told (outcomes.Refused refusal) = is_told_of_refusal refusal
 is_told _ = true
 
--- how many event records stand before an offset of the bytes
-abbrev pub records_before : List ℕ → ℕ → ℕ
-records_before bytes offset = length (reading_of (take offset bytes)).records
-
 -- A request without a reply is told of a legal trace alone.
 abbrev pub IsIncompleteIf : Shape → List ℕ → Outcome → Option Incomplete → Type 0
 IsIncompleteIf shape bytes (outcomes.Yes events) (Some found) = IsIncompleteIn shape bytes (Some found)
@@ -57,7 +54,7 @@ IsIncompleteIf shape bytes o None = Unit {0}
 pub record IsJudgement (shape : Shape) (bytes : List ℕ) (o : Outcome) (earliest : Option Broken)
     (incomplete : Option Incomplete) : Type 0 where
   pub outcome : IsDecidedOutcome o → IsOutcomeOf shape bytes o
-  pub is_earliest : IsDecidedOutcome o → IsEarliestIf shape bytes earliest
+  pub is_earliest : IsDecidedOutcome o → IsToldFirst shape bytes earliest
   pub is_incomplete : IsIncompleteIf shape bytes o incomplete
 
 -- Why a legal trace is not complete, or otherwise what it uses at most.
@@ -66,11 +63,11 @@ IsWhyOfLegal shape bytes time most (Some found) (NotComplete why) = IsNotComplet
 IsWhyOfLegal shape bytes time most None (Yes usage) = IsUsageOf shape bytes usage
 IsWhyOfLegal shape bytes time most _ _ = ⊥
 
--- Why bytes are no trace: the fault, how many event records stand before it, and what broke first in those.
+-- Why bytes are no trace: the fault, how many event records stand before it, and what broke first in those. Nothing is
+-- read behind a fault.
 abbrev pub IsWhyOfFormat : Shape → List ℕ → (ℕ → ℕ → Option (List ℕ)) → ℕ → CodecFault → Why → Type 0
 IsWhyOfFormat shape bytes time most fault (Format told count broken) =
-    (told ≡ fault) × (count ≡ records_before bytes fault.offset)
-    × HasBrokenBefore shape (take fault.offset bytes) time most broken
+    (told ≡ fault) × (count ≡ length (reading_of bytes).records) × HasBrokenBefore shape bytes time most broken
 IsWhyOfFormat shape bytes time most fault _ = ⊥
 
 -- That is why the judgement of these bytes is what it is, where `first` says whether what broke first is told in the

@@ -5,9 +5,10 @@ ghost use Rattle.std.specs.List.{AllByRecursion};
 ghost use Rattle.lf_rules.specs.Fits.{Fits};
 ghost use Rattle.lf_rules.specs.InRange.{IsShape};
 ghost use Rattle.explain_lines.specs.Marks.{told_by};
+ghost use Rattle.lf_verdict.specs.Final.{IsToldFirst};
 ghost use Rattle.lf_verdict.specs.Outcome.{IsNo};
 ghost use Rattle.explain_why.specs.Cause.{HasBankOf};
-ghost use Rattle.explain_why.specs.NotLegal.{as_fault, names_place, HasBankOfFirst, IsEarliestIf, IsFirstCause};
+ghost use Rattle.explain_why.specs.NotLegal.{as_fault, names_place, HasBankOfFirst, IsFirstCause};
 ghost use Rattle.explain_why.specs.NotLegal.{told_fault, upon_of, IsSomeTraceFor, IsNotLegal};
 
 use crate::cause::{Cause, Contents, cause_of};
@@ -111,7 +112,7 @@ fn by_fault(
     requires in_range { IsShape shape.now }
     requires trace { IsSomeTraceFor shape.now bytes.now }
     requires bank { HasBankOf shape.now fault.now }
-    requires earliest { IsEarliestIf shape.now bytes.now earliest.now }
+    requires earliest { IsToldFirst shape.now bytes.now earliest.now }
     ensures { IfOk result (IsNotLegal shape.now bytes.now (told_by asked.now.times) asked.now.most fault.now
         earliest.now) }
 {
@@ -149,7 +150,7 @@ pub(crate) fn not_legal(
 ) -> Result<NotLegal, NoMemory>
     requires in_range { IsShape shape.now }
     requires no { IsNo shape.now bytes.now fault.now }
-    requires earliest { IsEarliestIf shape.now bytes.now earliest.now }
+    requires earliest { IsToldFirst shape.now bytes.now earliest.now }
     ensures { IfOk result (IsNotLegal shape.now bytes.now (told_by asked.now.times) asked.now.most
         (told_fault asked.now.first fault.now earliest.now) earliest.now) }
 {

@@ -1,18 +1,17 @@
 //! The records of a trace in the form of their bytes.
 
-ghost use Rattle.std.specs.Prelude.{◌≡◌, ℕ, List, [], None, IfOk};
+ghost use Rattle.std.specs.Prelude.{◌≡◌, ℕ, List, [], ◌++◌, IfOk, OnOk};
 ghost use Rattle.lf_rules.specs.declared.event.Record.{Record};
 ghost use Rattle.lf_rules.specs.Fits.{Bytes};
 ghost use Rattle.lf_codec.specs.Laws.{IsSomeTrace};
-ghost use Rattle.lf_codec.specs.Reader.{HasRead};
-ghost use Rattle.lf_codec.specs.Reading.{fault_so_far};
+ghost use Rattle.lf_codec.specs.Reader.{HasRead, with_records};
 ghost use Rattle.lf_codec.specs.Trace.{FitsTrace};
 ghost use Rattle.lf_verdict.specs.Breaking.{first_offset};
 ghost use Rattle.explain_why.specs.Packing.{IsPacking, HasMemory, IsPackingSoFar};
 ghost use Rattle.explain_why.specs.Taken.{HasTakenAll};
 
 use crate::parts::take_memory;
-use lf_codec::{Header, Packed, Reader, read_so_far};
+use lf_codec::{CodecCause, Header, Packed, Reader, read_so_far};
 use lf_rules::{Memory, NoMemory};
 use std::alloc::Global;
 
@@ -33,17 +32,30 @@ fn first_record_at(header: &Header) -> u64
     16 + u64::from(header.memory_count) * (4 + u64::from(header.block))
 }
 
-/// Reads the bytes, which have no fault, by a reader that has read nothing, and takes what it finds. A record takes
-/// about the room of its bytes.
+/// Packs the records of these bytes. A fault of the format is none here: what stands before it is packed.
+fn pack(reader: &mut Reader, bytes: &[u8], records: &mut Packed) -> Result<(), NoMemory>
+    ensures read { (fed : List ℕ) (memory : List (ℕ × Bytes)) (taken : List Record) →
+        HasRead (with_records records.old.records reader.old) fed memory taken →
+        OnOk result (HasRead (with_records records.new.records reader.new) (fed ++ bytes.now) memory taken) }
+    ensures drained { reader.old.records ≡ [] → OnOk result (reader.new.records ≡ []) }
+{
+    match reader.pack(bytes, records) {
+        Ok(()) => Ok(()),
+        Err(told) => match told.fault().cause {
+            CodecCause::NoMemory => Err(NoMemory),
+            _ => Ok(()),
+        },
+    }
+}
+
+/// Reads the bytes by a reader that has read nothing, and takes what it finds. A record takes about the room of its
+/// bytes.
 fn pack_all(alloc: Global, reader: &mut Reader, bytes: &[u8]) -> Result<(Memory, Packed), NoMemory>
     requires { HasRead reader.old [] [] [] }
     ensures { IfOk result (λ all. HasTakenAll reader.new bytes.now all.0.items all.1.records) }
 {
     let mut records = Packed::new(alloc);
-    // There is no fault, so a refusal is that memory ran out.
-    let Ok(()) = reader.pack(bytes, &mut records) else {
-        return Err(NoMemory);
-    };
+    pack(reader, bytes, &mut records)?;
     let mut memory = Vec::new(alloc);
     take_memory(reader, &mut memory)?;
     Ok((memory, records))
@@ -66,10 +78,9 @@ pub fn packed_in(alloc: Global, bytes: &[u8]) -> Result<Packing, NoMemory>
     })
 }
 
-/// The memory and the records in these bytes, which begin a trace and have no fault so far.
+/// The memory and the records in these bytes, which begin a trace, up to a fault of the format.
 pub(crate) fn packed_so_far(alloc: Global, bytes: &[u8]) -> Result<Packing, NoMemory>
-    requires fine { fault_so_far bytes.now ≡ None }
-    requires memory { HasMemory bytes.now }
+    requires { HasMemory bytes.now }
     ensures { IfOk result (IsPackingSoFar bytes.now) }
 {
     read_so_far();

@@ -1,12 +1,12 @@
 //! Why a verdict is what it is.
 
-ghost use Rattle.std.specs.Prelude.{◌≡◌, Some, IfOk, IfSome};
+ghost use Rattle.std.specs.Prelude.{Some, IfOk, IfSome};
 ghost use Rattle.explain_lines.specs.Marks.{told_by};
 ghost use Rattle.lf_rules.specs.InRange.{IsShape};
 ghost use Rattle.explain_why.specs.Logs.{IsCountable};
 ghost use Rattle.lf_verdict.specs.Incomplete.{IsIncompleteIn};
-ghost use Rattle.lf_codec.specs.Reading.{trace_fault};
-ghost use Rattle.explain_why.specs.Why.{records_before, IsJudgement, IsUsageOf, IsWhyOfLegal, IsWhyOfFormat, HasWhy};
+ghost use Rattle.lf_verdict.specs.Final.{IsToldFirst};
+ghost use Rattle.explain_why.specs.Why.{IsJudgement, IsUsageOf, IsWhyOfLegal, IsWhyOfFormat, HasWhy};
 
 use crate::broken_before::{BrokenBefore, broken_before};
 use crate::not_complete::{NotComplete, not_complete};
@@ -14,8 +14,7 @@ use crate::not_legal::{NotLegal, not_legal};
 use crate::{packed_logs_in, records_in};
 use count_usage::{Usage, usage_of};
 use explain_lines::Times;
-use explain_refusal::up_to;
-use lf_codec::{CodecFault, before_a_fault, fault_so_far, faults_stand};
+use lf_codec::CodecFault;
 use lf_rules::{NoMemory, Shape};
 use lf_verdict::{Broken, Incomplete, Outcome, Refusal};
 use std::alloc::Global;
@@ -72,14 +71,6 @@ fn usage_in(alloc: Global, shape: &Shape, bytes: &[u8]) -> Result<Usage, NoMemor
     usage_of(alloc, shape, &logs)
 }
 
-/// How many event records stand before an offset.
-fn records_before(alloc: Global, bytes: &[u8], offset: u64) -> Result<u64, NoMemory>
-    ensures { IfOk result (λ count. count ≡ records_before bytes.now offset) }
-{
-    let records = records_in(alloc, up_to(bytes, offset))?;
-    Ok(records.len() as u64)
-}
-
 /// Why a legal trace is not complete, or otherwise what it uses at most.
 fn why_of_legal(
     alloc: Global,
@@ -105,20 +96,18 @@ fn why_of_format(
     shape: &Shape,
     bytes: &[u8],
     fault: CodecFault,
+    earliest: &Option<Broken>,
     asked: &Asked<'_>,
 ) -> Result<Why, NoMemory>
     requires in_range { IsShape shape.now }
-    requires fault { trace_fault bytes.now ≡ Some fault }
+    requires earliest { IsToldFirst shape.now bytes.now earliest.now }
     ensures { IfOk result (IsWhyOfFormat shape.now bytes.now (told_by asked.now.times) asked.now.most fault) }
 {
-    fault_so_far();
-    faults_stand();
-    before_a_fault();
-    let broken = broken_before(alloc, shape, up_to(bytes, fault.offset), asked)?;
+    let records = records_in(alloc, bytes)?;
     Ok(Why::Format {
         fault,
-        count: records_before(alloc, bytes, fault.offset)?,
-        broken,
+        count: records.len() as u64,
+        broken: broken_before(alloc, shape, bytes, earliest, asked)?,
     })
 }
 
@@ -149,7 +138,8 @@ pub fn why_of(
         }
         Outcome::Yes { .. } => Ok(Some(why_of_legal(alloc, shape, bytes, incomplete, asked)?)),
         Outcome::Refused(Refusal::Format(fault)) => {
-            Ok(Some(why_of_format(alloc, shape, bytes, *fault, asked)?))
+            let why = why_of_format(alloc, shape, bytes, *fault, earliest, asked)?;
+            Ok(Some(why))
         }
         Outcome::Refused(Refusal::Header(_)) => Ok(Some(Why::Header)),
         Outcome::Refused(_) => Ok(None),

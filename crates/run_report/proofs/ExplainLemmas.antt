@@ -1,6 +1,6 @@
 -- What is explained of a conclusion.
-use Rattle.std.proofs.Common.{◌≡◌, ℕ, Bool, true, false, List, ◌∷◌, ◌++◌, Option, None, Some, Result, Ok, Err, IfOk}
-use Rattle.std.proofs.Common.{String, string_bytes, subst, sym, refl, ap, ◌∙◌}
+use Rattle.std.proofs.Common.{◌≡◌, ℕ, Bool, true, false, List, [], ◌∷◌, ◌++◌, Option, None, Some, Result, Ok, Err, IfOk}
+use Rattle.std.proofs.Common.{String, string_bytes, subst, sym, refl, ap, ◌∙◌, inl}
 use Rattle.std.specs.Global.{Global}
 use Rattle.lf_rules.specs.declared.shape.Shape.{Shape}
 use Rattle.lf_logs.specs.declared.incomplete.Incomplete.{Incomplete}
@@ -10,14 +10,15 @@ use Rattle.lf_verdict.specs.declared.answer.Refusal.{Refusal}
 use Rattle.lf_verdict.specs.declared.answer.Refusal.TheVariants as refusals
 use Rattle.lf_verdict.specs.declared.session.conclusion.Conclusion.{Conclusion}
 use Rattle.lf_verdict.specs.Conclusion.{IsConclusion}
+use Rattle.lf_verdict.specs.Final.{IsToldFirst}
 use Rattle.lf_verdict.specs.Incomplete.{IsIncompleteFor}
 use Rattle.lf_verdict.specs.Outcome.{IsDecidedOutcome, IsOutcomeOf}
-use Rattle.explain_why.specs.NotLegal.{IsEarliestIf}
 use Rattle.explain_why.specs.declared.why.Why.{Why}
 use Rattle.explain_why.specs.Why.{is_told_of_refusal, is_told, IsIncompleteIf, IsJudgement, IsWhy, why_text}
-use Rattle.explain_why.proofs.Earliest.{earliest_of}
+use Rattle.explain_json.specs.Why.{why_fields}
 use Rattle.run_engine.specs.Needs.{bytes_needs}
 use Rattle.run_report.specs.Explain.{Times, told_if, headline_text, TellsBehindLine, IsToldOf, IsExplained}
+use Rattle.run_report.specs.Json.{IsJsonOf, TellsJson, IsToldJson, IsJson}
 
 never : {T : Type 0} → false ≡ true → T
 never same = absurd (cc)
@@ -70,8 +71,8 @@ pub judgement : (complete : Bool) (shape : Shape) (bytes : List ℕ) (c : Conclu
     → IsJudgement shape bytes c.outcome c.broken (told_if complete c.incomplete)
 judgement complete shape bytes c is same = record {
   outcome = same_or shape (λ b. IsOutcomeOf shape b c.outcome) c.fed.bytes bytes c.outcome same is.outcome;
-  is_earliest = same_or shape (λ b. IsEarliestIf shape b c.broken) c.fed.bytes bytes c.outcome same
-      (λ on. earliest_of shape c.fed.bytes c.broken is.earliest (is.none on refl));
+  is_earliest = same_or shape (λ b. IsToldFirst shape b c.broken) c.fed.bytes bytes c.outcome same
+      (λ on. record { earliest = is.earliest; none = is.none_so_far on refl });
   is_incomplete = incomplete_at complete shape c.fed.bytes bytes c.outcome c.incomplete same is.incomplete;
 }
 
@@ -95,3 +96,33 @@ module _ {E : Type 0} (shape : Shape) (time : Times) (most : ℕ) (complete firs
         lines = text_is ∙ ap (λ (l : List ℕ). l ++ 10 ∷ 10 ∷ why_text shape bytes why) line_is;
       })))
   told_behind line (Err e) same told is own line_is text_is = tt
+
+-- ---- the same as JSON
+
+module _ {E : Type 0} (shape : Shape) (time : Times) (most : ℕ) (config : List ℕ) (complete first : Bool)
+    (c : Conclusion) (found : Option Incomplete) (same : found ≡ told_if complete c.incomplete) where
+  -- The text that tells why is due.
+  pub told_json : (bytes : List ℕ) (why : Why) (r : Result (String Global) E) → is_told c.outcome ≡ true
+      → IsWhy shape bytes time most first c.outcome c.broken found why
+      → (IsDecidedOutcome c.outcome → bytes ≡ c.fed.bytes)
+      → IfOk r (λ text. IsJsonOf config first c.outcome c.broken found (why_fields shape bytes why) (string_bytes text))
+      → IfOk r (λ text. IsJson time most config complete first (Some shape) c (string_bytes text))
+  told_json bytes why (Ok text) told is own text_is =
+      inl (subst (λ (t : Bool). IsToldJson shape c.fed.bytes time most config first c.outcome c.broken
+      (told_if complete c.incomplete) t (string_bytes text)) (sym told)
+      (subst (λ (f : Option Incomplete). TellsJson shape c.fed.bytes time most config first c.outcome c.broken f
+      (string_bytes text)) same
+      (subst (λ (b : List ℕ). TellsJson shape b time most config first c.outcome c.broken found (string_bytes text))
+      (own (decided c.outcome told)) (record { why = why; is_why = is; is_answer = text_is }))))
+  told_json bytes why (Err e) told is own text_is = tt
+
+  -- So is the answer alone where nothing is told.
+  pub untold_json : (r : Result (String Global) E) → is_told c.outcome ≡ false
+      → IfOk r (λ text. IsJsonOf config first c.outcome c.broken found [] (string_bytes text))
+      → IfOk r (λ text. IsJson time most config complete first (Some shape) c (string_bytes text))
+  untold_json (Ok text) untold text_is =
+      inl (subst (λ (t : Bool). IsToldJson shape c.fed.bytes time most config first c.outcome c.broken
+      (told_if complete c.incomplete) t (string_bytes text)) (sym untold)
+      (subst (λ (f : Option Incomplete). IsJsonOf config first c.outcome c.broken f [] (string_bytes text)) same
+      text_is))
+  untold_json (Err e) untold text_is = tt

@@ -1,6 +1,7 @@
 //! Why the verdict is what it is, as JSON.
 
 ghost use Rattle.std.specs.Prelude.{◌≡◌, IfOk, Some, None, string_bytes};
+ghost use Rattle.explain_json.specs.Answer.{told_fields};
 ghost use Rattle.run_report.specs.Json.{IsJsonOf};
 
 use crate::explain::told_if;
@@ -30,8 +31,8 @@ fn json_of(
     config: &str,
     told: Option<Told<'_>>,
 ) -> Result<String, NoMemory>
-    ensures { IfOk result (λ text. IsJsonOf first judged.now.outcome.now judged.now.earliest.now judged.now.incomplete
-        (string_bytes text)) }
+    ensures { IfOk result (λ text. IsJsonOf config.now first judged.now.outcome.now judged.now.earliest.now
+        judged.now.incomplete (told_fields told) (string_bytes text)) }
 {
     let line = headline_of(first, judged);
     let line = format!(in alloc; "{line}")?;
@@ -49,10 +50,12 @@ impl Ask for Json<'_> {
     ghost use Rattle.std.specs.Prelude.{codes, true};
     ghost use Rattle.run_engine.specs.Needs.{bytes_needs};
     ghost use Rattle.run_report.specs.Json.{bare, IsJson};
+    ghost use Rattle.explain_lines.specs.Marks.{told_by};
 
     ghost needs_of = { λ _. bytes_needs true };
 
-    ghost is_due = { λ ask shape conclusion text. IsJson ask.asked.complete ask.asked.first shape conclusion text };
+    ghost is_due = { λ ask shape conclusion text. IsJson (told_by ask.asked.times) ask.asked.most ask.config.now
+        ask.asked.complete ask.asked.first shape conclusion text };
 
     ghost lost = { bare (codes "refused read trace") };
 

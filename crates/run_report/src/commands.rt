@@ -108,7 +108,8 @@ pub fn run_explain_json<T: AllocGlobal + Threads + Sync + Send + Copy + 'static,
     ensures unread { ¬ IsAsked config.now 1 → reader.new ≡ reader.old }
     ensures run { IsRunFor (account_of R.remaining reader.old) (account_of R.remaining reader.new)
         (account_of W.contents writer.old) (account_of W.contents writer.new) config.now 1
-        (bytes_needs true) (IsJson asked.now.complete asked.now.first)
+        (bytes_needs true) (IsJson (told_by asked.now.times) asked.now.most config.now asked.now.complete
+        asked.now.first)
         (bare (codes "refused read trace")) turns result }
 {
     let ask = Json {

@@ -1,13 +1,10 @@
-use Rattle.std.proofs.Common.{ℕ, List, string_bytes, IfOk, subst}
-use Rattle.std.proofs.lemmas.Result.{IfOk-weaker}
-use Rattle.serde_json.specs.View.{members_view}
-use Rattle.explain_json.specs.Answer.{IsAnswer}
+use Rattle.explain_json.specs.Answer.{told_fields}
 use Rattle.explain_json.proofs.Answering.{is_answer}
 use Rattle.explain_json.proofs.answer.explained_json.Goals as goal
 
 pub returns : goal.returns
 returns c =
-    subst (λ (word : List ℕ). IfOk c.answer_text.result
-    (λ text. IsAnswer c.args.answer.now.line.now word (string_bytes text))) c.word_of-word.ensures
-    (IfOk-weaker c.answer_text.result _ _ (λ text is.
-    is_answer _ _ (members_view c.match-answer.object.members.entries) _ is) c.answer_text.ensures)
+    let answer = c.args.answer.now in
+    is_answer answer.line.now answer.outcome.now answer.is_complete answer.config.now (told_fields answer.told) _ _ _ _
+    c.answer_text.result c.new-object.ensures c.in_ok-set_verdict.ensures c.in_ok-set_why_if.ensures
+    c.word_of-word.ensures c.answer_text.ensures

@@ -5,8 +5,8 @@ use Rattle.explain_why.specs.Cause.{HasBankOf, IsCause}
 use Rattle.explain_why.proofs.BrokenSoFar.{has_memory, bank_of_first, packed_fits, is_broken_by}
 use Rattle.explain_why.proofs.broken_before.broken_by.Goals as goal
 
-pub packed_so_far-requires-clause-memory : goal.packed_so_far-requires-clause-memory
-packed_so_far-requires-clause-memory c =
+pub packed_so_far-requires : goal.packed_so_far-requires
+packed_so_far-requires c =
     has_memory c.args.shape.now c.args.bytes.now c.args.fault.now c.args.upon c.requires.first
 
 pub cause_of-requires-clause-bank : goal.cause_of-requires-clause-bank
