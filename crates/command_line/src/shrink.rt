@@ -24,16 +24,20 @@ Only its number may be another one, and the number of its bank's other events.
 If the rule compares bytes, the same ones are expected. Nothing else breaks
 before it, unless something does in TRACE.
 
-The search leaves out what comes after the fault, then the events of banks,
-ports and blocks, loads from which no state is left, what happened to a block
-before level two gave it up, evictions with the misses after them, requests,
-replies, and at last single events. The requests that lead to the event stay,
-and for a reply that no request waits for, the last request with its tag and
-the reply to that. The last 8 events before a bank's event at its second-level
-block stay too, since they show why; fewer of them stay if 30 events or more
-would be left. If the first fill of a block is left out, the memory of OUT has
-the bytes of the first one that is left. OUT need not be the smallest such
-trace. If nothing smaller is found, OUT is TRACE.
+The search leaves out what comes after the fault, then stalls and loads from
+which no state is left, the events of banks, ports and blocks, what happened
+to a block before a level gave it up, requests, replies, and at last single
+events. The requests that lead to the event stay, and for a reply that no
+request waits for, the last request with its tag and the reply to that. The
+last 8 events before a bank's event at its second-level block stay too, since
+they show why; fewer of them stay if 30 events or more would be left. OUT need
+not be the smallest such trace. If nothing smaller is found, OUT is TRACE.
+
+If the first fill of a block is left out, the memory of OUT has the bytes of
+the first one that is left. If 30 events or more would be left, stores are
+left out whose bytes later events carry: the replies, fills and evictions
+before the fault get the bytes and masks that the rules expect of them then,
+and the memory has the bytes that are expected of the event at fault.
 
 With --first, the fault is what broke first in TRACE, and the first line says
 what broke first in OUT; see score help watch.

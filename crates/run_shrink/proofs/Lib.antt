@@ -1,4 +1,4 @@
 pub mod Faults
 pub mod Larger
-pub mod Masks
+pub mod Same
 pub mod Told

@@ -1,7 +1,6 @@
 -- What each trace that is kept has in common: the rule, the record that breaks it, and the bytes that it asks for.
-use Rattle.std.specs.Prelude.{◌≡◌, ℕ, ◌+◌, ◌<◌, Bool, true, false, List, Option, Some, None}
+use Rattle.std.specs.Prelude.{◌≡◌, ◌≢◌, ◌⊎◌, ℕ, ◌+◌, ◌<◌, Bool, true, false, List, Option, Some, None}
 use Rattle.std.specs.Option.{option_map}
-use Rattle.std.specs.Global.{Vec}
 use Rattle.lf_rules.specs.declared.event.Record.{Record}
 use Rattle.lf_rules.specs.declared.rule.Rule.{Rule}
 use Rattle.lf_rules.specs.declared.rule.Rule.TheVariants.{ReplyData, FillData, EvictData}
@@ -16,6 +15,7 @@ use Rattle.explain_replay.specs.declared.expected.Expected.TheVariants as expect
 use Rattle.explain_replay.specs.Broken.{IsFirstBroken}
 use Rattle.run_shrink.specs.declared.broken.RuleFault.{RuleFault}
 use Rattle.run_shrink.specs.declared.broken.RuleFault.TheVariants.{Port, Bank}
+use Rattle.run_shrink.specs.declared.wanted.Due.{Due}
 use Rattle.run_shrink.specs.declared.wanted.Wanted.{Wanted}
 use Rattle.run_shrink.specs.Broken.{rule_of, record_of}
 
@@ -63,8 +63,8 @@ abbrev pub AreDue : Shape → List (ℕ × Bytes) → List Record → RuleFault 
 AreDue shape memory rs (Port port at rule) due = due ≡ None
 AreDue shape memory rs (Bank bank number rule) due = AreDueIf (is_of_bytes rule) shape memory rs bank number due
 
-abbrev pub items_of : Option (Vec ℕ) → Option (List ℕ)
-items_of due = option_map (λ (v : Vec ℕ). v.items) due
+abbrev pub items_of : Option Due → Option (List ℕ)
+items_of due = option_map (λ (d : Due). d.bytes.items) due
 
 -- In a trace of this memory and these records the fault is of the rule that is wanted, by the record that is wanted,
 -- of which the rule expects the bytes that are wanted.
@@ -73,3 +73,8 @@ pub record IsWanted (shape : Shape) (memory : List (ℕ × Bytes)) (rs : List Re
   pub rule : rule_of fault ≡ wanted.rule
   pub item : AreSame (record_of rs fault) wanted.item
   pub due : AreDue shape memory rs fault (items_of wanted.due)
+
+-- The fault is of another rule, or by another record, or the rule expects other bytes of it.
+abbrev pub IsOther : Shape → List (ℕ × Bytes) → List Record → RuleFault → Wanted → Type 0
+IsOther shape memory rs fault wanted = (rule_of fault ≢ wanted.rule) ⊎ (¬ AreSame (record_of rs fault) wanted.item) ⊎
+    ((due : Option (List ℕ)) × AreDue shape memory rs fault due × (due ≢ items_of wanted.due))

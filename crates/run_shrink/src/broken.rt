@@ -92,6 +92,27 @@ impl RuleFault {
             RuleFault::Bank { bank, number, .. } => record_of_number(records, bank, number),
         }
     }
+
+    /// The place of that record, where there is one.
+    pub(crate) fn place(self, records: &[Record]) -> Option<usize> {
+        let mut before = 0u32;
+        for (place, item) in records.iter().enumerate() {
+            match self {
+                RuleFault::Port { port, at, .. } if item.log == port => {
+                    if before == at {
+                        return Some(place);
+                    }
+                    before = before.saturating_add(1);
+                }
+                RuleFault::Bank { bank, number, .. }
+                    if item.bank == bank && item.number == number => {
+                    return Some(place);
+                }
+                _ => {}
+            }
+        }
+        None
+    }
 }
 
 /// The record at this place of a log.

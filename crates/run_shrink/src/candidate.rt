@@ -9,6 +9,7 @@ ghost use Rattle.run_shrink.specs.Candidate.{IsKept, IsSmallerThan};
 ghost use Rattle.run_shrink.specs.Wanted.{IsWanted};
 
 use crate::broken::RuleFault;
+use crate::mend::mend;
 use crate::numbers::Place;
 use crate::wanted::{Sought, Wanted};
 use lf_codec::{Header, encode, fits_trace};
@@ -23,6 +24,8 @@ pub(crate) struct Candidate {
     pub records: Vec<Record>,
     /// Where each record stands in the trace that was read.
     pub places: Vec<Place>,
+    /// The place of the record that breaks the rule, where the others are to be given what the rules expect of them.
+    pub mended_but: Option<usize>,
 }
 
 /// A trace that has the fault that is wanted.
@@ -123,9 +126,13 @@ pub(crate) fn kept_if(
 {
     let Candidate {
         memory,
-        records,
+        mut records,
         places,
+        mended_but,
     } = candidate;
+    if let Some(broken) = mended_but {
+        mend(alloc, shape, &memory, broken, &mut records)?;
+    }
     let Ok(memory_count) = u32::try_from(memory.len()) else {
         return Ok(None);
     };

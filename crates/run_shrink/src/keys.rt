@@ -11,19 +11,21 @@ use std::alloc::Global;
 pub(crate) enum Stage {
     /// All that stands behind the record that breaks the rule.
     Behind,
+    /// The records of which no state is left: stalls, fences, and loads that found their block.
+    Idle,
     /// The records of a bank.
     Banks,
     /// The records of a port's requests.
     Ports,
     /// The records that touch a second-level block.
     Blocks,
-    /// The records of a load from which no state is left.
-    Loads,
-    /// The records at a second-level block between two of its evictions from level two.
-    Pasts,
+    /// The records of a line of level two.
+    SecondLines,
     /// The blocks of memory that no record touches.
     Memory,
-    /// An eviction from level one, and the records of the request that brings the block back.
+    /// The records of a line of level one.
+    Lines,
+    /// An eviction from level one, and the records of the line that its block gets after it.
     Refills,
     /// The records of a request.
     Requests,
@@ -34,45 +36,26 @@ pub(crate) enum Stage {
 }
 
 /// How many stages there are.
-pub(crate) const STAGES: usize = 11;
+pub(crate) const STAGES: usize = 12;
 
 impl Stage {
     /// The stage after this one.
     pub fn next(self) -> Option<Stage> {
         match self {
-            Stage::Behind => Some(Stage::Banks),
+            Stage::Behind => Some(Stage::Idle),
+            Stage::Idle => Some(Stage::Banks),
             Stage::Banks => Some(Stage::Ports),
             Stage::Ports => Some(Stage::Blocks),
-            Stage::Blocks => Some(Stage::Loads),
-            Stage::Loads => Some(Stage::Pasts),
-            Stage::Pasts => Some(Stage::Memory),
-            Stage::Memory => Some(Stage::Refills),
+            Stage::Blocks => Some(Stage::SecondLines),
+            Stage::SecondLines => Some(Stage::Memory),
+            Stage::Memory => Some(Stage::Lines),
+            Stage::Lines => Some(Stage::Refills),
             Stage::Refills => Some(Stage::Requests),
             Stage::Requests => Some(Stage::Replies),
             Stage::Replies => Some(Stage::Records),
             Stage::Records => None,
         }
     }
-}
-
-/// The place of the record that breaks the rule, where there is one.
-fn broken_place(fault: RuleFault, records: &[Record]) -> Option<usize> {
-    let mut before = 0u32;
-    for (place, item) in records.iter().enumerate() {
-        match fault {
-            RuleFault::Port { port, at, .. } if item.log == port => {
-                if before == at {
-                    return Some(place);
-                }
-                before = before.saturating_add(1);
-            }
-            RuleFault::Bank { bank, number, .. } if item.bank == bank && item.number == number => {
-                return Some(place);
-            }
-            _ => {}
-        }
-    }
-    None
 }
 
 /// The records of the best trace, and what links them.
@@ -102,7 +85,7 @@ impl Parts {
             stays,
             last: last_needed(best.fault, records),
         };
-        if let Some(broken) = broken_place(best.fault, records) {
+        if let Some(broken) = best.fault.place(records) {
             parts.pin(best, broken);
             parts.pin_history(best, order, broken, count);
             parts.pin_answered(best, broken);
@@ -128,7 +111,8 @@ impl Parts {
         }
     }
 
-    /// So many of the last records of the bank stay that touch the second-level block of the one that breaks the rule.
+    /// So many of the last records of the bank stay that touch the second-level block of the one that breaks the rule,
+    /// stalls aside.
     fn pin_history(&mut self, best: &Kept, order: &[usize], broken: usize, count: usize) {
         let RuleFault::Bank { bank, number, .. } = best.fault else {
             return;
@@ -140,7 +124,8 @@ impl Parts {
                 continue;
             };
             let is_of_block = self.link(*place).and_then(|link| link.second) == second;
-            if left > 0 && item.bank == bank && item.number < number && is_of_block {
+            let is_before = item.bank == bank && item.number < number;
+            if left > 0 && is_before && is_of_block && !is_idle(&item.event) {
                 self.pin(best, *place);
                 left -= 1;
             }
@@ -208,21 +193,14 @@ impl Parts {
                     None
                 }
             }
+            Stage::Idle => idle_key(item, place, link),
             Stage::Banks => bank_key(item),
             Stage::Ports => port_key(records, link.owner),
             Stage::Blocks => link.second,
-            Stage::Loads => {
-                if link.is_read {
-                    as_key(link.owner)
-                } else {
-                    None
-                }
-            }
-            Stage::Pasts => link
-                .second
-                .map(|second| second << 32 | u64::from(link.past)),
+            Stage::SecondLines => link.second_line,
             Stage::Memory => None,
-            Stage::Refills => as_key(link.refill),
+            Stage::Lines => link.line,
+            Stage::Refills => refill_key(item, link),
             Stage::Requests => as_key(link.owner),
             Stage::Replies => reply_key(item, place),
             Stage::Records => Some(place as u64),
@@ -234,15 +212,17 @@ fn as_key(place: Option<usize>) -> Option<u64> {
     place.map(|place| place as u64)
 }
 
-/// Whether something comes of the event: a stall changes nothing, and an eviction ends what the request led to.
-fn leads_on(event: &Event) -> bool {
-    !matches!(
+/// Whether the event changes nothing.
+fn is_idle(event: &Event) -> bool {
+    matches!(
         event,
-        Event::Stall { .. }
-            | Event::SecondStall { .. }
-            | Event::Evict1 { .. }
-            | Event::Evict2 { .. }
+        Event::Stall { .. } | Event::SecondStall { .. } | Event::Fence
     )
+}
+
+/// Whether something comes of the event: an eviction ends what the request led to.
+fn leads_on(event: &Event) -> bool {
+    !is_idle(event) && !matches!(event, Event::Evict1 { .. } | Event::Evict2 { .. })
 }
 
 /// Whether the bank's record stands behind the one that breaks the rule, in the order of their numbers.
@@ -250,6 +230,25 @@ fn is_later(fault: RuleFault, item: &Record) -> bool {
     match fault {
         RuleFault::Bank { bank, number, .. } => item.bank == bank && item.number > number,
         RuleFault::Port { .. } => false,
+    }
+}
+
+/// A load stands by the place of its issue, and what changes nothing by its own.
+fn idle_key(item: &Record, place: usize, link: &Link) -> Option<u64> {
+    if is_idle(&item.event) {
+        Some(place as u64)
+    } else if link.is_read {
+        as_key(link.owner)
+    } else {
+        None
+    }
+}
+
+/// An eviction stands by the line after it, whose key is the next.
+fn refill_key(item: &Record, link: &Link) -> Option<u64> {
+    match &item.event {
+        Event::Evict1 { .. } => Some(link.line?.saturating_add(1)),
+        _ => link.line,
     }
 }
 

@@ -57,15 +57,6 @@ pub(crate) fn bank_order(alloc: Global, records: &[Record]) -> Result<Vec<usize>
     Ok(places)
 }
 
-/// Copies of the records.
-pub(crate) fn copies(alloc: Global, records: &[Record]) -> Result<Vec<Record>, NoMemory> {
-    let mut copied = Vec::new(alloc);
-    for item in records {
-        copied.push(RecordView::of(item).to_record())?;
-    }
-    Ok(copied)
-}
-
 /// The records that stay, each numbered by how many of its bank stay before it.
 pub(crate) fn renumbered(
     alloc: Global,

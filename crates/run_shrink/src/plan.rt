@@ -1,9 +1,9 @@
 //! Which trace is tried next.
 
 use crate::candidate::{Candidate, Kept};
-use crate::contents::{patched, touched};
+use crate::contents::{Left, patched, touched};
 use crate::keys::{Parts, STAGES, Stage};
-use crate::numbers::{bank_order, copies, renumbered, staying};
+use crate::numbers::{bank_order, renumbered, staying};
 use crate::wanted::Wanted;
 use lf_rules::{NoMemory, Shape};
 use std::alloc::Global;
@@ -15,9 +15,16 @@ const SHOWN: usize = 8;
 /// A trace of fewer events than this is short enough to be read, so what shows why the rule is broken stays.
 const SHORT: usize = 30;
 
+/// At most so many stages without a part come one after another.
+const MOST: usize = 8 * STAGES;
+
+/// A trace of so many events is not searched request by request before its records are mended.
+const LONG: usize = 200;
+
 /// Leaves parts of the smallest trace out: all of them, a half, then quarters, down to single ones, stage by stage, and
-/// again from the first stage until nothing more is kept. Where the trace is not short by then, half as many records
-/// that show why the rule is broken stay, and so on until none does.
+/// again from the first stage until nothing more is kept. Where the trace is not short by then, the records that stay
+/// are mended, so that a store may be left out whose bytes they carry. At last half as many records stay that show why
+/// the rule is broken, and so on until none does.
 #[derive(Drop)]
 pub(crate) struct Plan<'a> {
     alloc: Global,
@@ -26,6 +33,8 @@ pub(crate) struct Plan<'a> {
     stage: Stage,
     /// How many records that show why the rule is broken stay.
     shown: usize,
+    /// Whether the records that stay carry what the rules expect of them.
+    mends: bool,
     /// The places of the smallest trace's records, by bank and number.
     order: Vec<usize>,
     /// The key of the part that each of its records belongs to.
@@ -66,6 +75,7 @@ impl<'a> Plan<'a> {
             wanted,
             stage: Stage::Behind,
             shown: SHOWN,
+            mends: false,
             order: Vec::new(alloc),
             keys: Vec::new(alloc),
             parts: Vec::new(alloc),
@@ -99,7 +109,7 @@ impl<'a> Plan<'a> {
 
     /// The next candidate, where there is one.
     pub fn next(&mut self, best: &Kept) -> Result<Option<Candidate>, NoMemory> {
-        for _ in 0..2 * STAGES {
+        for _ in 0..MOST {
             if self.at < self.parts.len() {
                 return Ok(Some(self.candidate(best)?));
             }
@@ -118,9 +128,12 @@ impl<'a> Plan<'a> {
             return Ok(true);
         }
         match self.stage.next() {
+            Some(Stage::Requests) if !self.mends && best.records.len() >= LONG => self.mend(),
             Some(stage) => self.stage = stage,
             None if self.was_kept => self.start_again(),
-            None if self.shown > 0 && best.records.len() >= SHORT => {
+            None if best.records.len() < SHORT => return Ok(false),
+            None if !self.mends => self.mend(),
+            None if self.shown > 0 => {
                 self.shown /= 2;
                 self.start_again();
             }
@@ -128,6 +141,11 @@ impl<'a> Plan<'a> {
         }
         self.begin(best)?;
         Ok(true)
+    }
+
+    fn mend(&mut self) {
+        self.mends = true;
+        self.start_again();
     }
 
     fn start_again(&mut self) {
@@ -150,26 +168,21 @@ impl<'a> Plan<'a> {
 
     /// The smallest trace without the parts that are left out.
     fn candidate(&self, best: &Kept) -> Result<Candidate, NoMemory> {
-        let records = best.records.as_slice();
-        if self.stage == Stage::Memory {
-            return Ok(Candidate {
-                memory: touched(self.alloc, self.shape, &best.memory, records)?,
-                records: copies(self.alloc, records)?,
-                places: best.places.clone()?,
-            });
-        }
         let stays = self.stays()?;
+        let left = Left {
+            best,
+            order: &self.order,
+            stays: &stays,
+        };
+        let memory = match self.stage {
+            Stage::Memory => touched(self.alloc, self.shape, &best.memory, &best.records)?,
+            _ => patched(self.alloc, self.shape, &self.wanted.due, &left, self.mends)?,
+        };
         Ok(Candidate {
-            memory: patched(
-                self.alloc,
-                self.shape,
-                self.wanted,
-                best,
-                &self.order,
-                &stays,
-            )?,
-            records: renumbered(self.alloc, records, &self.order, &stays)?,
+            memory,
+            records: renumbered(self.alloc, &best.records, &self.order, &stays)?,
             places: staying(self.alloc, &best.places, &stays)?,
+            mended_but: if self.mends { left.broken() } else { None },
         })
     }
 

@@ -29,7 +29,7 @@ fn block_at(shape: &Shape, address: u64) -> Option<u64> {
 }
 
 /// The place of a port's tag among those of all ports.
-pub(crate) fn place_of(port: u8, tag: u8) -> usize {
+fn place_of(port: u8, tag: u8) -> usize {
     usize::from(port) * 256 + usize::from(tag)
 }
 
@@ -164,17 +164,6 @@ impl Requests {
     }
 }
 
-/// How a request was accepted.
-#[derive(Clone, Copy)]
-struct Accepted {
-    /// How often level two had given its second-level block up by then.
-    past: u32,
-    /// It is a load that found its block or a register that holds it, so no state is left of it.
-    is_read: bool,
-    /// The request whose fetch brought its block back to level one after an eviction, where it is in it.
-    refill: Option<usize>,
-}
-
 /// The parts of a trace that a record belongs to.
 #[derive(Clone, Copy)]
 pub(crate) struct Link {
@@ -182,76 +171,95 @@ pub(crate) struct Link {
     pub owner: Option<usize>,
     /// The second-level block that it touches.
     pub second: Option<u64>,
-    /// How often level two had given that block up before.
-    pub past: u32,
-    /// It belongs to a load from which no state is left.
+    /// The key of the line of that block in level two: what happens to the block between two evictions is of one line.
+    pub second_line: Option<u64>,
+    /// The key of the line of its request's block in level one.
+    pub line: Option<u64>,
+    /// It belongs to a load that found its block, or a register that holds it, so no state is left of it.
     pub is_read: bool,
-    /// It belongs to an eviction of level one and the fetch that brought the block back: that one's request.
-    pub refill: Option<usize>,
+}
+
+impl Link {
+    /// What is known of a record that belongs to no request.
+    fn none() -> Link {
+        Link {
+            owner: None,
+            second: None,
+            second_line: None,
+            line: None,
+            is_read: false,
+        }
+    }
+}
+
+/// How often a level gave each block up.
+#[derive(Drop)]
+struct Evictions(BTreeMap<u64, u64>);
+
+impl Evictions {
+    fn count(&self, block: u64) -> u64 {
+        self.0.get(&block).copied().unwrap_or(0)
+    }
+
+    /// The key of the line that the block has, or gets next.
+    fn line(&self, block: Option<u64>) -> Option<u64> {
+        let block = block?;
+        Some(block << 32 | self.count(block))
+    }
+
+    fn add(&mut self, block: u64) -> Result<(), NoMemory> {
+        let count = self.count(block).saturating_add(1);
+        let _ = self.0.insert(block, count)?;
+        Ok(())
+    }
 }
 
 /// What links the records of a trace.
 #[derive(Drop)]
 struct Links {
     requests: Requests,
-    /// How often level two gave up each second-level block.
-    pasts: BTreeMap<u64, u32>,
-    /// The place of the last eviction of each block from level one.
-    gone: BTreeMap<u32, usize>,
-    /// By the place of its issue, how each request was accepted.
-    accepted: Vec<Accepted>,
+    first: Evictions,
+    second: Evictions,
+    /// By the place of its issue, what is known of the record that accepted a request.
+    accepted: Vec<Option<Link>>,
     links: Vec<Link>,
 }
 
 impl Links {
     fn new(alloc: Global, count: usize) -> Result<Links, NoMemory> {
-        let accepted = Accepted {
-            past: 0,
-            is_read: false,
-            refill: None,
-        };
-        let link = Link {
-            owner: None,
-            second: None,
-            past: 0,
-            is_read: false,
-            refill: None,
-        };
         Ok(Links {
             requests: Requests::new(alloc)?,
-            pasts: BTreeMap::new(alloc),
-            gone: BTreeMap::new(alloc),
-            accepted: vec![in alloc; accepted; count]?,
-            links: vec![in alloc; link; count]?,
+            first: Evictions(BTreeMap::new(alloc)),
+            second: Evictions(BTreeMap::new(alloc)),
+            accepted: vec![in alloc; None; count]?,
+            links: vec![in alloc; Link::none(); count]?,
         })
     }
 
-    /// The request of this issue is accepted by a record of this second-level block.
-    fn accept(&mut self, request: Option<usize>, past: u32, is_read: bool, refill: Option<usize>) {
-        if let Some(issue) = request {
-            if let Some(accepted) = self.accepted.get_mut(issue) {
-                *accepted = Accepted {
-                    past,
-                    is_read,
-                    refill,
-                };
-            }
-        }
-    }
-
-    /// The fetch of a request, where it brings back a block that level one gave up.
-    fn refill(&mut self, block: Option<u64>, request: Option<usize>) -> Option<usize> {
-        let block = u32::try_from(block?).ok()?;
-        let place = self.gone.remove(&block)?;
-        if let Some(link) = self.links.get_mut(place) {
-            link.refill = request;
-        }
-        request
-    }
-
-    /// How the request that its fetch is of was accepted, where the record is in its fetch.
-    fn refill_of(&self, request: Option<usize>) -> Option<usize> {
-        self.accepted.get(request?)?.refill
+    /// What is known of the record at this place when it comes.
+    fn link(
+        &mut self,
+        shape: &Shape,
+        records: &[Record],
+        place: usize,
+        item: &Record,
+    ) -> Result<Link, NoMemory> {
+        let owner = self.requests.owner(shape, records, place)?;
+        let second = second_touched(shape, records, owner, item);
+        let block = match &item.event {
+            Event::Evict1 { block, .. } => Some(u64::from(*block)),
+            Event::Evict2 { .. } => None,
+            _ => owner.and_then(|issue| block_asked(shape, records, issue)),
+        };
+        let is_read =
+            matches!(&item.event, Event::Hit { .. } | Event::Merge { .. }) && is_load(records, owner);
+        Ok(Link {
+            owner,
+            second,
+            second_line: self.second.line(second),
+            line: self.first.line(block),
+            is_read,
+        })
     }
 
     /// Notes the record at this place.
@@ -259,64 +267,40 @@ impl Links {
         let Some(item) = records.get(place) else {
             return Ok(());
         };
-        let owner = self.requests.owner(shape, records, place)?;
-        let second = second_touched(shape, records, owner, item);
-        let past = second
-            .and_then(|second| self.pasts.get(&second).copied())
-            .unwrap_or(0);
-        if let Some(link) = self.links.get_mut(place) {
-            *link = Link {
-                owner,
-                second,
-                past,
-                is_read: false,
-                refill: None,
-            };
+        let link = self.link(shape, records, place, item)?;
+        let owner = link.owner;
+        if let Some(held) = self.links.get_mut(place) {
+            *held = link;
         }
-        let block = owner.and_then(|issue| block_asked(shape, records, issue));
         match &item.event {
-            Event::Hit { .. } => self.accept(owner, past, is_load(records, owner), None),
-            Event::Primary { .. } => {
-                let refill = self.refill(block, owner);
-                self.accept(owner, past, false, refill);
+            Event::Hit { .. } | Event::Primary { .. } | Event::Merge { .. } => {
+                if let Some(issue) = owner
+                    && let Some(accepted) = self.accepted.get_mut(issue)
+                {
+                    *accepted = Some(link);
+                }
+                Ok(())
             }
-            Event::Merge { .. } => {
-                let fetch = block.and_then(|block| self.requests.first.get(&block).copied());
-                let refill = self.refill_of(fetch);
-                self.accept(owner, past, is_load(records, owner), refill);
-            }
-            Event::Evict1 { block, .. } => {
-                let _ = self.gone.insert(*block, place)?;
-            }
-            Event::Evict2 { block, .. } => {
-                let _ = self
-                    .pasts
-                    .insert(u64::from(*block), past.saturating_add(1))?;
-            }
-            _ => {}
+            Event::Evict1 { block, .. } => self.first.add(u64::from(*block)),
+            Event::Evict2 { block, .. } => self.second.add(u64::from(*block)),
+            _ => Ok(()),
         }
-        Ok(())
     }
 
-    /// What is known of the record at this place once all were noted.
+    /// An issue, a reply and a stall belong to what the acceptance of their request belongs to, once all were noted.
     fn settle(&mut self, item: &Record, place: usize) {
+        let is_of_request = matches!(
+            &item.event,
+            Event::Issue { .. } | Event::Reply { .. } | Event::Stall { .. }
+        );
         let Some(link) = self.links.get_mut(place) else {
             return;
         };
-        let Some(accepted) = link.owner.and_then(|issue| self.accepted.get(issue)) else {
-            return;
-        };
-        match &item.event {
-            Event::Evict1 { .. } | Event::Evict2 { .. } => {}
-            Event::Issue { .. } | Event::Reply { .. } | Event::Stall { .. } => {
-                link.past = accepted.past;
-                link.is_read = accepted.is_read;
-                link.refill = accepted.refill;
-            }
-            _ => {
-                link.is_read = accepted.is_read;
-                link.refill = accepted.refill;
-            }
+        if let Some(issue) = link.owner
+            && is_of_request
+            && let Some(Some(accepted)) = self.accepted.get(issue)
+        {
+            *link = *accepted;
         }
     }
 }

@@ -1,18 +1,18 @@
 //! What each trace that is kept has in common.
 
 ghost use Rattle.std.specs.Prelude.{◌≡◌, ◌<◌, ◌↔◌, IsTrue, true, IfOk};
+ghost use Rattle.std.specs.Bool.{MatchBool};
 ghost use Rattle.std.specs.Option.{option_map};
 ghost use Rattle.std.specs.List.{AllByRecursion};
 ghost use Rattle.lf_rules.specs.Fits.{Fits};
 ghost use Rattle.lf_rules.specs.InRange.{IsShape};
 ghost use Rattle.run_shrink.specs.Wanted.{IsSame, AreSame, is_of_bytes, bytes_due, AreDue, AreDueIf, items_of};
-ghost use Rattle.run_shrink.specs.Wanted.{IsWanted, HasBank};
+ghost use Rattle.run_shrink.specs.Wanted.{IsWanted, IsOther, HasBank};
 
 use crate::broken::RuleFault;
-use crate::same::is_same_event;
 use explain_history::{packed, places_in_order};
 use explain_replay::{Broken, Expected, first_broken};
-use lf_rules::{Memory, NoMemory, Record, Rule, Shape};
+use lf_rules::{Event, Memory, NoMemory, Record, Rule, Shape};
 use std::alloc::Global;
 use trace_views::RecordView;
 
@@ -33,7 +33,15 @@ pub(crate) struct Wanted {
     /// The record that breaks the rule, where it is found. Its number may be another one.
     pub item: Option<Record>,
     /// The bytes that the rule expects of it, where it compares bytes.
-    pub due: Option<Vec<u8>>,
+    pub due: Option<Due>,
+}
+
+/// The bytes that a rule expects of a record.
+#[derive(Drop)]
+pub(crate) struct Due {
+    pub bytes: Vec<u8>,
+    /// The address of each of them.
+    pub addresses: Vec<u64>,
 }
 
 /// Whether the rule compares the bytes of a record.
@@ -44,12 +52,16 @@ fn is_of_bytes(rule: Rule) -> bool
 }
 
 /// The bytes that are expected of the record that breaks a rule.
-fn bytes_due(broken: Option<Broken>) -> Option<Vec<u8>>
+fn bytes_due(broken: Option<Broken>) -> Option<Due>
     ensures { items_of result ≡ bytes_due broken }
 {
-    let Broken { expected, .. } = broken?;
+    let Broken {
+        expected,
+        addresses,
+        ..
+    } = broken?;
     match expected? {
-        Expected::Bytes(due) => Some(due),
+        Expected::Bytes(bytes) => Some(Due { bytes, addresses }),
         _ => None,
     }
 }
@@ -62,7 +74,7 @@ fn due_in_bank(
     records: &[Record],
     bank: u8,
     number: u32,
-) -> Result<Option<Vec<u8>>, NoMemory>
+) -> Result<Option<Due>, NoMemory>
     requires shape { IsShape shape.now }
     requires bank { bank < shape.now.banks }
     requires fit { AllByRecursion (Fits shape.now) records.now }
@@ -81,7 +93,7 @@ fn due_of(
     memory: &Memory,
     records: &[Record],
     fault: RuleFault,
-) -> Result<Option<Vec<u8>>, NoMemory>
+) -> Result<Option<Due>, NoMemory>
     requires shape { IsShape shape.now }
     requires bank { HasBank shape.now fault }
     requires fit { AllByRecursion (Fits shape.now) records.now }
@@ -102,9 +114,16 @@ fn is_same_rule(rule: Rule, other: Rule) -> bool
     rule == other
 }
 
+/// Whether two events are one.
+fn is_same_event(event: &Event, other: &Event) -> bool
+    ensures { IsTrue result ↔ (event.now ≡ other.now) }
+{
+    event == other
+}
+
 /// Whether two records are one, but for their numbers.
 fn is_same(item: &Record, other: &Record) -> bool
-    ensures { IsTrue result → IsSame item.now other.now }
+    ensures { IsTrue result ↔ IsSame item.now other.now }
 {
     item.log == other.log && item.bank == other.bank && is_same_event(&item.event, &other.event)
 }
@@ -119,22 +138,23 @@ fn copy_of(item: Option<&Record>) -> Option<Record>
     }
 }
 
-/// Whether both are there, and are one record.
+/// Whether both are one record, or none.
 fn are_same(item: Option<&Record>, other: &Option<Record>) -> bool
-    ensures { IsTrue result → AreSame (option_map (λ item. item.now) item.entry) other.now }
+    ensures { IsTrue result ↔ AreSame (option_map (λ item. item.now) item.entry) other.now }
 {
     match (item, other) {
         (Some(item), Some(other)) => is_same(item, other),
+        (None, None) => true,
         _ => false,
     }
 }
 
 /// Whether both are the same bytes, or none.
-fn is_same_due(due: &Option<Vec<u8>>, other: &Option<Vec<u8>>) -> bool
-    ensures { IsTrue result → items_of due.now ≡ items_of other.now }
+fn is_same_due(due: &Option<Due>, other: &Option<Due>) -> bool
+    ensures { IsTrue result ↔ (items_of due.now ≡ items_of other.now) }
 {
     match (due, other) {
-        (Some(due), Some(other)) => due.as_slice() == other.as_slice(),
+        (Some(due), Some(other)) => due.bytes.as_slice() == other.bytes.as_slice(),
         (None, None) => true,
         _ => false,
     }
@@ -176,7 +196,8 @@ impl Wanted {
         requires shape { IsShape shape.now }
         requires bank { HasBank shape.now fault }
         requires fit { AllByRecursion (Fits shape.now) records.now }
-        ensures { IfOk result (λ met. IsTrue met → IsWanted shape.now memory.now.items records.now fault self.now) }
+        ensures { IfOk result (λ met. MatchBool met (IsWanted shape.now memory.now.items records.now fault self.now)
+            (IsOther shape.now memory.now.items records.now fault self.now)) }
     {
         if !is_same_rule(fault.rule(), self.rule) || !are_same(fault.record(records), &self.item) {
             return Ok(false);

@@ -104,6 +104,24 @@ fn what_broke_first_is_another_fault(rt: HostRuntime) -> Result<(), Fail> {
     Ok(())
 }
 
+/// Six stores, each written back by level one, and a fill that lacks what they wrote.
+#[test]
+fn stores_that_fills_carry_are_left_out(rt: HostRuntime) -> Result<(), Fail> {
+    let parts = [
+        "S 0 1@0=aa, P 0 0, SP 0 0, F2 0, F1 0, R 0, E1 0 01=aa",
+        "S 0 1@1=aa, P 0 0, SH 0, F1 0=aa00000000000000, R 0, E1 0 02=aa",
+        "S 0 1@2=aa, P 0 0, SH 0, F1 0=aaaa000000000000, R 0, E1 0 04=aa",
+        "S 0 1@3=aa, P 0 0, SH 0, F1 0=aaaaaa0000000000, R 0, E1 0 08=aa",
+        "S 0 1@4=aa, P 0 0, SH 0, F1 0=aaaaaaaa00000000, R 0, E1 0 10=aa",
+        "S 0 1@5=aa, P 0 0, SH 0, F1 0=aaaaaaaaaa000000, R 0, E1 0 20=aa",
+        "L 0 8@0, P 0 0, SH 0, F1 0",
+    ];
+    let bytes = trace_of(rt.alloc(), &C1, &parts)?;
+    let shrunk = found(&rt, bytes.as_slice(), 1000)?;
+    assert_eq!(rt; (shrunk.events, shrunk.left), (41, 17));
+    Ok(())
+}
+
 #[test]
 fn an_observer_is_told_of_each_check(rt: HostRuntime) -> Result<(), Fail> {
     let bytes = trace_of(rt.alloc(), &C1, &[LOAD, LOADED, "L 1 8@8, H 1"])?;
